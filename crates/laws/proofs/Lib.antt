@@ -1,0 +1,4 @@
+-- Laws of no one layer: one answer, tables.
+pub mod Unique
+pub mod Table
+pub mod Lent

@@ -1,0 +1,1 @@
+// No code: laws that every layer cites. They stand in proofs/.
