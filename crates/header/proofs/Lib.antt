@@ -1,0 +1,3 @@
+pub mod Times
+pub mod Bounds
+pub mod Answers

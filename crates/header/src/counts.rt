@@ -1,0 +1,183 @@
+// The clock counts of a header: each time of 01's "Clock counts" in clocks of the header's period.
+use crate::Header;
+use crate::bins::time;
+use units::Clocks;
+use units::Ps;
+ghost use mathlib.Core.Path.{_≡_};
+ghost use Prim.Native.Nat.{_+_, _<_};
+ghost use mathlib.Core.Bool.{cond};
+ghost use Rattle.header.specs.Bins.{timeAt};
+ghost use Rattle.header.specs.Counts.{row, least, leastOr, greatest, tRCD, tRP, tRC, tRAS, tRRD, tFAW, tCKE, tRTP, tWTR, tWR, tMRD, tMOD, tRFC, tXS, zqLong, zqShort, mostRAS, tREFI};
+
+impl Header {
+    pub fn trcd(self) -> Clocks
+        ensures { λ r. ⌜ r ≡ tRCD self ⌝ }
+    {
+        core(self, 0)
+    }
+
+    pub fn trp(self) -> Clocks
+        ensures { λ r. ⌜ r ≡ tRP self ⌝ }
+    {
+        core(self, 0)
+    }
+
+    pub fn trc(self) -> Clocks
+        ensures { λ r. ⌜ r ≡ tRC self ⌝ }
+    {
+        core(self, 1)
+    }
+
+    pub fn tras(self) -> Clocks
+        ensures { λ r. ⌜ r ≡ tRAS self ⌝ }
+    {
+        core(self, 2)
+    }
+
+    pub fn trrd(self) -> Clocks
+        ensures { λ r. ⌜ r ≡ tRRD self ⌝ }
+    {
+        let time = paged(self, 3);
+        least_or(self, time, 4)
+    }
+
+    pub fn tfaw(self) -> Clocks
+        ensures { λ r. ⌜ r ≡ tFAW self ⌝ }
+    {
+        let time = paged(self, 5);
+        least(self, time)
+    }
+
+    pub fn tcke(self) -> Clocks
+        ensures { λ r. ⌜ r ≡ tCKE self ⌝ }
+    {
+        let time = time(self.bin, 7);
+        least_or(self, time, 3)
+    }
+
+    pub fn trtp(self) -> Clocks
+        ensures { λ r. ⌜ r ≡ tRTP self ⌝ }
+    {
+        least_or(self, 7500, 4)
+    }
+
+    pub fn twtr(self) -> Clocks
+        ensures { λ r. ⌜ r ≡ tWTR self ⌝ }
+    {
+        least_or(self, 7500, 4)
+    }
+
+    pub fn twr(self) -> Clocks
+        ensures { λ r. ⌜ r ≡ tWR self ⌝ }
+    {
+        least(self, 15000)
+    }
+
+    pub fn tmrd(self) -> Clocks
+        ensures { λ r. ⌜ r ≡ tMRD self ⌝ }
+    {
+        Clocks { clocks: 4 }
+    }
+
+    pub fn tmod(self) -> Clocks
+        ensures { λ r. ⌜ r ≡ tMOD self ⌝ }
+    {
+        least_or(self, 15000, 12)
+    }
+
+    pub fn trfc(self) -> Clocks
+        ensures { λ r. ⌜ r ≡ tRFC self ⌝ }
+    {
+        let time = choice(self.dense, 160000, 110000);
+        least(self, time)
+    }
+
+    // tRFC + 10000, at least 5.
+    pub fn txs(self) -> Clocks
+        ensures { λ r. ⌜ r ≡ tXS self ⌝ }
+    {
+        let time = choice(self.dense, 160000, 110000);
+        least_or(self, time + 10000, 5)
+    }
+
+    pub fn zqlong(self) -> Clocks
+        ensures { λ r. ⌜ r ≡ zqLong self ⌝ }
+    {
+        least_or(self, 320000, 256)
+    }
+
+    pub fn zqshort(self) -> Clocks
+        ensures { λ r. ⌜ r ≡ zqShort self ⌝ }
+    {
+        least_or(self, 80000, 64)
+    }
+
+    pub fn mostras(self) -> Clocks
+        ensures { λ r. ⌜ r ≡ mostRAS self ⌝ }
+    {
+        greatest(self, 70000000)
+    }
+
+    pub fn trefi(self) -> Clocks
+        ensures { λ r. ⌜ r ≡ tREFI self ⌝ }
+    {
+        let time = choice(self.hot, 3900000, 7800000);
+        greatest(self, time)
+    }
+}
+
+// A time of the bin's row, rounded up.
+fn core(h: Header, column: usize) -> Clocks
+    requires { ⌜ column < 8 ⌝ }
+    ensures { λ r. ⌜ r ≡ least h (timeAt column (row h)) ⌝ }
+{
+    let time = time(h.bin, column);
+    least(h, time)
+}
+
+// The time of the 1K page, or that of the 2K page in the next column.
+fn paged(h: Header, column: usize) -> u64
+    requires { ⌜ column < 7 ⌝ }
+    ensures { λ r. ⌜ r ≡ cond (h .wide) (timeAt (column + 1) (row h)) (timeAt column (row h)) ⌝ }
+{
+    if h.wide {
+        return time(h.bin, column + 1);
+    }
+    time(h.bin, column)
+}
+
+fn choice(first: bool, a: u64, b: u64) -> u64
+    ensures { λ r. ⌜ r ≡ cond first a b ⌝ }
+{
+    if first {
+        return a;
+    }
+    b
+}
+
+// A least time, rounded up.
+fn least(h: Header, time: u64) -> Clocks
+    ensures { λ r. ⌜ r ≡ least h time ⌝ }
+{
+    let period = h.period;
+    Ps { ps: time }.up(period)
+}
+
+// A least time, but at least so many clocks.
+fn least_or(h: Header, time: u64, floor: u64) -> Clocks
+    ensures { λ r. ⌜ r ≡ leastOr h time floor ⌝ }
+{
+    let c = least(h, time);
+    if c.clocks < floor {
+        return Clocks { clocks: floor };
+    }
+    c
+}
+
+// A greatest time, rounded down.
+fn greatest(h: Header, time: u64) -> Clocks
+    ensures { λ r. ⌜ r ≡ greatest h time ⌝ }
+{
+    let period = h.period;
+    Ps { ps: time }.down(period)
+}
