@@ -1,0 +1,3 @@
+-- What the proofs of the burst orders share, and what a caller may want to know of them.
+pub mod Rows
+pub mod Answers
