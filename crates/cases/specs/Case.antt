@@ -1,0 +1,39 @@
+-- What a worked example of 01 says, and when it holds of the definitions.
+-- Assumes nothing.
+use Prim.Native.Nat.{ℕ}
+use mathlib.Core.Path.{_≡_}
+use mathlib.Core.Bool.{Bool, true}
+use mathlib.Core.List.{List, [], _∷_}
+use Rattle.units.specs.declared.Clocks.{Clocks}
+use Rattle.header.specs.declared.Header.{Header}
+use Rattle.header.specs.Counts.{tRCD, tRP, tRC, tRAS, tRRD, tFAW, tRTP, tWR, tRFC, tMOD, tXS, tREFI}
+use Rattle.registers.specs.Allowed.{allowed}
+use Rattle.registers.specs.Reading.{fieldsOf}
+use Rattle.bursts.specs.Burst.{orderOf}
+
+-- the twelve counts that P1 and P2 list, in their order
+abbrev pub countsOf : Header → List ℕ
+countsOf h =
+    tRCD h .clocks ∷ tRP h .clocks ∷ tRC h .clocks ∷ tRAS h .clocks ∷ tRRD h .clocks ∷ tFAW h .clocks ∷ tRTP h .clocks ∷ tWR h .clocks
+    ∷ tRFC h .clocks ∷ tMOD h .clocks ∷ tXS h .clocks ∷ tREFI h .clocks ∷ []
+
+pub data Case : Type 0 where
+  -- the clock counts of a header
+  counts : (h : Header) (clocks : List ℕ) → Case
+  -- the words of a burst
+  burst : (length start kind direction : ℕ) (words : List ℕ) → Case
+  -- a code that is allowed, and what register reading gives for it
+  reads : (h : Header) (number code : ℕ) (fields : List ℕ) → Case
+  -- whether a code is allowed
+  permits : (h : Header) (number code : ℕ) (answer : Bool) → Case
+
+abbrev pub Holds : Case → Type 0
+Holds (counts h clocks) = countsOf h ≡ clocks
+Holds (burst length start kind direction words) = orderOf length start kind direction ≡ words
+Holds (reads h number code fields) = (allowed h number code ≡ true) × (fieldsOf number code ≡ fields)
+Holds (permits h number code answer) = allowed h number code ≡ answer
+
+-- every case of a table holds
+abbrev pub AllHold : List Case → Type 0
+AllHold [] = Unit {0}
+AllHold (c ∷ cs) = Holds c × AllHold cs
