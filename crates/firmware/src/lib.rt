@@ -1,0 +1,25 @@
+// What the logger's C firmware calls, with numbers and byte slices: 0 is success, any other number 01's refusal.
+// include/manilaply.h declares these for C.
+ghost use Rattle.firmware.specs.Calls.{Register, Burst};
+
+// A header, a register's number and a code: six bytes in out, as 01's "Register reading" says.
+#[no_mangle]
+pub extern "C" fn manilaply_register(header: &[u8], number: u32, code: u16, out: &mut [u8]) -> u32
+    ensures { λ r. ⌜ Register (now (header .entry)) number code (now (out .entry)) r (now (out .exit)) ⌝ }
+{
+    registers::read(header, number, code, out)
+}
+
+// The order of a burst's words, one byte a word, in out.
+#[no_mangle]
+pub extern "C" fn manilaply_burst(
+    length: u32,
+    start: u32,
+    kind: u32,
+    direction: u32,
+    out: &mut [u8],
+) -> u32
+    ensures { λ r. ⌜ Burst length start kind direction (now (out .entry)) r (now (out .exit)) ⌝ }
+{
+    bursts::order(length, start, kind, direction, out)
+}

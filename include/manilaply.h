@@ -1,0 +1,79 @@
+/* manilaply: what a C program can call of the DDR3 judge.
+ *
+ * Link target/staticlib/libfirmware.a (`rt staticlib firmware`), which needs memcpy and memset of C
+ * and nothing else. No function here keeps state, allocates, or keeps a pointer after it returns.
+ *
+ * Every function answers 0, or the number of a refusal. A refusal writes no byte. Where several
+ * refusals hold, the one that stands first in the function's list is answered.
+ *
+ * What the caller owes, and no function can check:
+ *   - a pointer is valid for as many bytes as the length behind it says: to read, and through
+ *     `out` to write;
+ *   - `out` overlaps no other slice of the same call;
+ *   - a pointer is null only where its length is 0.
+ * Numbers may be anything: what is out of range is refused.
+ */
+#ifndef MANILAPLY_H
+#define MANILAPLY_H
+
+/* The standard's types; where there are no headers, as on a bare compiler, the compiler's own.
+ * A compiler that cannot tell whether there are can be told, by -DMANILAPLY_NO_HEADERS. */
+#if defined(__has_include) && !defined(MANILAPLY_NO_HEADERS)
+#if !__has_include(<stdint.h>) || !__has_include(<stddef.h>)
+#define MANILAPLY_NO_HEADERS
+#endif
+#endif
+
+#ifdef MANILAPLY_NO_HEADERS
+typedef __UINT8_TYPE__ uint8_t;
+typedef __UINT16_TYPE__ uint16_t;
+typedef __UINT32_TYPE__ uint32_t;
+typedef __SIZE_TYPE__ size_t;
+#else
+#include <stddef.h>
+#include <stdint.h>
+#endif
+
+#ifdef __cplusplus
+extern "C" {
+#endif
+
+/* What a mode register's code says under a recording's header.
+ *
+ * Writes 6 bytes to the start of out, CL, WR and CWL in clocks and any other field as its bits:
+ *   number 0, MR0   A1A0, A3, CL, A8, WR, A12
+ *   number 1, MR1   A4A3, A1, A9A6A2, A11, A12, 0
+ *   number 2, MR2   CWL, A6, A7, A10A9, A2..A0, 0
+ *   number 3, MR3   0, 0, 0, 0, 0, 0
+ * Bytes of out after these keep their values.
+ *
+ * Answers 0, or the first of
+ *    9   out_len is below 6
+ *    1   header_len is not 6
+ *    2   the header's edition is not 1
+ *    3   a zero field of the header is not zero
+ *    4   the period is under the bin's least, or over 3300 ps
+ *   11   number is above 3, or the header does not allow the code
+ */
+uint32_t manilaply_register(const uint8_t *header, size_t header_len, uint32_t number, uint16_t code,
+                            uint8_t *out, size_t out_len);
+
+/* The order in which a burst's words come.
+ *
+ * length is 8 or 4, start 0 to 7. type 0 is sequential, any other number interleave; direction 0 is
+ * a read, any other number a write. Writes a byte for each word, 8 or 4, to the start of out: the
+ * place of the word that comes first, then of the second, and so on. Bytes of out after these keep
+ * their values.
+ *
+ * Answers 0, or the first of
+ *   10   length is neither 4 nor 8, or start is above 7
+ *    9   out_len is below length
+ */
+uint32_t manilaply_burst(uint32_t length, uint32_t start, uint32_t type, uint32_t direction,
+                         uint8_t *out, size_t out_len);
+
+#ifdef __cplusplus
+}
+#endif
+
+#endif
