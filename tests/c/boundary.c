@@ -1,0 +1,444 @@
+/* Calls every exported function from C on good and bad input, and holds each answer and each byte of
+ * the lent buffers to the tables below, which are written from 01. tests/c/run builds and runs it.
+ *
+ * A check is one call on one buffer. Each call is made in a buffer that has guard bytes before and
+ * behind it, under two patterns, and in a heap block of the lent length, where valgrind sees any
+ * byte that is touched outside of it. */
+#include "../../include/manilaply.h"
+
+/* What is used of C: on Arm the kit has no headers to include. */
+long write(int file, const void *bytes, size_t length);
+void *malloc(size_t length);
+void free(void *block);
+
+/* ---- counting and telling */
+
+static unsigned long checks, wrong;
+
+static void say(const char *text)
+{
+    size_t length = 0;
+    while (text[length] != 0)
+        length++;
+    if (write(1, text, length) < 0)
+        wrong++;
+}
+
+static void say_number(unsigned long n)
+{
+    char digits[24];
+    size_t at = sizeof digits;
+    digits[--at] = 0;
+    do {
+        digits[--at] = (char)('0' + n % 10);
+        n /= 10;
+    } while (n != 0);
+    say(digits + at);
+}
+
+/* One check is done; of those that fail the first ten are told. */
+static void count(int good, const char *table, unsigned long row, uint32_t wanted, uint32_t got)
+{
+    checks++;
+    if (good)
+        return;
+    wrong++;
+    if (wrong > 10)
+        return;
+    say("boundary: ");
+    say(table);
+    say(", row ");
+    say_number(row);
+    say(": wanted ");
+    say_number(wanted);
+    say(", got ");
+    say_number(got);
+    say(wanted == got ? ", bytes differ\n" : "\n");
+}
+
+/* ---- lent buffers */
+
+enum { GUARD = 24, MOST = 24, WHOLE = GUARD + MOST + GUARD, BLOCK = 2 };
+
+static uint8_t guarded[WHOLE];
+
+/* What byte i of a buffer holds before a call. The second pattern differs from the first in every bit. */
+static uint8_t pattern(unsigned kind, size_t i)
+{
+    uint8_t p = (uint8_t)(i * 37 + 101);
+    return kind % 2 == 0 ? p : (uint8_t)~p;
+}
+
+/* A buffer of length bytes: kinds 0 and 1 are guarded, kind 2 is a block of its own. */
+static uint8_t *lend(unsigned kind, size_t length)
+{
+    uint8_t *out = kind == BLOCK ? malloc(length) : guarded + GUARD;
+    size_t i;
+    for (i = 0; kind != BLOCK && i < WHOLE; i++)
+        guarded[i] = pattern(kind, i);
+    for (i = 0; i < length; i++)
+        out[i] = pattern(kind, GUARD + i);
+    return out;
+}
+
+/* Has the buffer these bytes at its start, and all else as it was? Gives it back. */
+static int holds(unsigned kind, uint8_t *out, size_t length, const uint8_t *bytes, size_t n)
+{
+    int good = 1;
+    size_t i;
+    for (i = 0; i < length; i++)
+        good &= out[i] == (i < n ? bytes[i] : pattern(kind, GUARD + i));
+    if (kind == BLOCK)
+        free(out);
+    else
+        for (i = 0; i < WHOLE; i++)
+            good &= (i >= GUARD && i < GUARD + length) || guarded[i] == pattern(kind, i);
+    return good;
+}
+
+/* ---- register reading */
+
+enum { SIX = 6 };
+
+/* A header in a block of its own, which the call must leave as it is. */
+static uint32_t read_under(const uint8_t *header, size_t header_len, uint32_t number, uint16_t code,
+                           uint8_t *out, size_t out_len, int *kept)
+{
+    uint8_t *lent = malloc(header_len);
+    uint32_t got;
+    size_t i;
+    for (i = 0; i < header_len; i++)
+        lent[i] = header[i];
+    got = manilaply_register(lent, header_len, number, code, out, out_len);
+    for (i = 0; i < header_len; i++)
+        *kept &= lent[i] == header[i];
+    free(lent);
+    return got;
+}
+
+/* One reading on a buffer of out_len bytes, of each kind. */
+static void reading(const char *table, unsigned long row, const uint8_t *header, size_t header_len,
+                    uint32_t number, uint16_t code, size_t out_len, uint32_t wanted, const uint8_t *six)
+{
+    unsigned kind;
+    for (kind = 0; kind <= BLOCK; kind++) {
+        uint8_t *out = lend(kind, out_len);
+        int good = 1;
+        uint32_t got = read_under(header, header_len, number, code, out, out_len, &good);
+        good &= holds(kind, out, out_len, six, wanted == 0 ? SIX : 0);
+        count(good && got == wanted, table, row, wanted, got);
+    }
+}
+
+/* Bin 1, 1500 ps, 1 Gb x8 (P1); bin 3, 1070 ps, 2 Gb x16 (P2); bin 1 at 2500 and 2499 ps (P7). */
+static const uint8_t P1[] = {0x14, 0x05, 0xDC, 0, 0, 0};
+static const uint8_t P2[] = {0x1F, 0x04, 0x2E, 0, 0, 0};
+static const uint8_t P7[] = {0x14, 0x09, 0xC4, 0, 0, 0};
+static const uint8_t P7_UNDER[] = {0x14, 0x09, 0xC3, 0, 0, 0};
+
+static const struct {
+    const uint8_t *header;
+    uint32_t number;
+    uint16_t code;
+    uint8_t six[SIX];
+} ALLOWED[] = {
+    /* A1A0, A3, CL, A8, WR, A12 */
+    {P1, 0, 0x0B50, {0, 0, 9, 1, 10, 0}},
+    {P1, 0, 0x1C69, {1, 1, 10, 0, 12, 1}},
+    {P1, 0, 0x0E52, {2, 0, 9, 0, 14, 0}},
+    {P1, 0, 0x0050, {0, 0, 9, 0, 16, 0}},
+    {P2, 0, 0x0004, {0, 0, 12, 0, 16, 0}},
+    {P7, 0, 0x0420, {0, 0, 6, 0, 6, 0}},
+    {P7_UNDER, 0, 0x0630, {0, 0, 7, 0, 7, 0}},
+    /* A4A3, A1, A9A6A2, A11, A12, 0 */
+    {P1, 1, 0x0000, {0, 0, 0, 0, 0, 0}},
+    {P1, 1, 0x1A16, {2, 1, 5, 1, 1, 0}},
+    {P1, 1, 0x0048, {1, 0, 2, 0, 0, 0}},
+    {P2, 1, 0x1216, {2, 1, 5, 0, 1, 0}},
+    /* CWL, A6, A7, A10A9, A2..A0, 0 */
+    {P1, 2, 0x0010, {7, 0, 0, 0, 0, 0}},
+    {P1, 2, 0x0495, {7, 0, 1, 2, 5, 0}},
+    {P1, 2, 0x0257, {7, 1, 0, 1, 7, 0}},
+    {P2, 2, 0x0020, {9, 0, 0, 0, 0, 0}},
+    {P7, 2, 0x0000, {5, 0, 0, 0, 0, 0}},
+    {P7_UNDER, 2, 0x0008, {6, 0, 0, 0, 0, 0}},
+    /* zeros */
+    {P1, 3, 0x0000, {0, 0, 0, 0, 0, 0}},
+    {P2, 3, 0x0000, {0, 0, 0, 0, 0, 0}},
+};
+
+/* Each is refused with 11. */
+static const struct {
+    const uint8_t *header;
+    uint32_t number;
+    uint16_t code;
+} NOT_ALLOWED[] = {
+    /* MR0: burst 11; CL 0000 and 8; A7; WR 8; A13, A14, A15 */
+    {P1, 0, 0x0B53}, {P1, 0, 0x0B00}, {P1, 0, 0x0B40}, {P1, 0, 0x0BD0}, {P1, 0, 0x0950},
+    {P1, 0, 0x2B50}, {P1, 0, 0x4B50}, {P1, 0, 0x8B50},
+    /* MR0: WR 14 at P2 (P6); CL 7 at 2500 and CL 6 at 2499 (P7) */
+    {P2, 0, 0x0E04}, {P7, 0, 0x0430}, {P7_UNDER, 0, 0x0620},
+    /* MR1: A0, A5, A7, A8, A10, A13, A14, A15; AL 11; A9A6A2 110, 111; A11 on x16 */
+    {P1, 1, 0x0001}, {P1, 1, 0x0020}, {P1, 1, 0x0080}, {P1, 1, 0x0100}, {P1, 1, 0x0400},
+    {P1, 1, 0x2000}, {P1, 1, 0x4000}, {P1, 1, 0x8000}, {P1, 1, 0x0018}, {P1, 1, 0x0240},
+    {P1, 1, 0x0244}, {P2, 1, 0x0800},
+    /* MR2: CWL 6, 8, 12; A8; A10A9 11; A6 with A7; A11 to A15 */
+    {P1, 2, 0x0008}, {P1, 2, 0x0018}, {P1, 2, 0x0038}, {P1, 2, 0x0110}, {P1, 2, 0x0610},
+    {P1, 2, 0x00D0}, {P1, 2, 0x0810}, {P1, 2, 0x1010}, {P1, 2, 0x2010}, {P1, 2, 0x4010},
+    {P1, 2, 0x8010},
+    /* MR3: every bit */
+    {P1, 3, 0x0001}, {P1, 3, 0x0002}, {P1, 3, 0x0004}, {P1, 3, 0x0008}, {P1, 3, 0x0010},
+    {P1, 3, 0x0020}, {P1, 3, 0x0040}, {P1, 3, 0x0080}, {P1, 3, 0x0100}, {P1, 3, 0x0200},
+    {P1, 3, 0x0400}, {P1, 3, 0x0800}, {P1, 3, 0x1000}, {P1, 3, 0x2000}, {P1, 3, 0x4000},
+    {P1, 3, 0x8000},
+    /* no register above 3, also where the number's low bits are those of one */
+    {P1, 4, 0}, {P1, 5, 0}, {P1, 7, 0}, {P1, 8, 0}, {P1, 255, 0}, {P1, 256, 0x0B50},
+    {P1, 259, 0}, {P1, 65539, 0}, {P1, 0x80000003, 0}, {P1, 0xFFFFFFFF, 0},
+};
+
+/* Headers by what is answered to MR3's code 0, which every header allows that is taken. */
+static const struct {
+    uint8_t header[SIX];
+    uint32_t wanted;
+} HEADERS[] = {
+    /* editions other than 1 */
+    {{0x04, 0x05, 0xDC, 0, 0, 0}, 2}, {{0x24, 0x05, 0xDC, 0, 0, 0}, 2},
+    {{0x34, 0x05, 0xDC, 0, 0, 0}, 2}, {{0x54, 0x05, 0xDC, 0, 0, 0}, 2},
+    {{0x94, 0x05, 0xDC, 0, 0, 0}, 2}, {{0xF4, 0x05, 0xDC, 0, 0, 0}, 2},
+    /* each bit of the zero fields */
+    {{0x14, 0x45, 0xDC, 0, 0, 0}, 3}, {{0x14, 0x25, 0xDC, 0, 0, 0}, 3},
+    {{0x14, 0x15, 0xDC, 0, 0, 0}, 3},
+    {{0x14, 0x05, 0xDC, 0x80, 0, 0}, 3}, {{0x14, 0x05, 0xDC, 0x40, 0, 0}, 3},
+    {{0x14, 0x05, 0xDC, 0x20, 0, 0}, 3}, {{0x14, 0x05, 0xDC, 0x10, 0, 0}, 3},
+    {{0x14, 0x05, 0xDC, 0x08, 0, 0}, 3}, {{0x14, 0x05, 0xDC, 0x04, 0, 0}, 3},
+    {{0x14, 0x05, 0xDC, 0x02, 0, 0}, 3}, {{0x14, 0x05, 0xDC, 0x01, 0, 0}, 3},
+    {{0x14, 0x05, 0xDC, 0, 0x80, 0}, 3}, {{0x14, 0x05, 0xDC, 0, 0x40, 0}, 3},
+    {{0x14, 0x05, 0xDC, 0, 0x20, 0}, 3}, {{0x14, 0x05, 0xDC, 0, 0x10, 0}, 3},
+    {{0x14, 0x05, 0xDC, 0, 0x08, 0}, 3}, {{0x14, 0x05, 0xDC, 0, 0x04, 0}, 3},
+    {{0x14, 0x05, 0xDC, 0, 0x02, 0}, 3}, {{0x14, 0x05, 0xDC, 0, 0x01, 0}, 3},
+    {{0x14, 0x05, 0xDC, 0, 0, 0x80}, 3}, {{0x14, 0x05, 0xDC, 0, 0, 0x40}, 3},
+    {{0x14, 0x05, 0xDC, 0, 0, 0x20}, 3}, {{0x14, 0x05, 0xDC, 0, 0, 0x10}, 3},
+    {{0x14, 0x05, 0xDC, 0, 0, 0x08}, 3}, {{0x14, 0x05, 0xDC, 0, 0, 0x04}, 3},
+    {{0x14, 0x05, 0xDC, 0, 0, 0x02}, 3}, {{0x14, 0x05, 0xDC, 0, 0, 0x01}, 3},
+    /* by bin: one under the least period, the least, 3300, 3301 */
+    {{0x10, 0x07, 0x52, 0, 0, 0}, 4}, {{0x10, 0x07, 0x53, 0, 0, 0}, 0},
+    {{0x10, 0x0C, 0xE4, 0, 0, 0}, 0}, {{0x10, 0x0C, 0xE5, 0, 0, 0}, 4},
+    {{0x14, 0x05, 0xDB, 0, 0, 0}, 4}, {{0x14, 0x05, 0xDC, 0, 0, 0}, 0},
+    {{0x14, 0x0C, 0xE4, 0, 0, 0}, 0}, {{0x14, 0x0C, 0xE5, 0, 0, 0}, 4},
+    {{0x18, 0x04, 0xE1, 0, 0, 0}, 4}, {{0x18, 0x04, 0xE2, 0, 0, 0}, 0},
+    {{0x18, 0x0C, 0xE4, 0, 0, 0}, 0}, {{0x18, 0x0C, 0xE5, 0, 0, 0}, 4},
+    {{0x1C, 0x04, 0x2D, 0, 0, 0}, 4}, {{0x1C, 0x04, 0x2E, 0, 0, 0}, 0},
+    {{0x1C, 0x0C, 0xE4, 0, 0, 0}, 0}, {{0x1C, 0x0C, 0xE5, 0, 0, 0}, 4},
+    /* the least and the greatest that twelve bits hold */
+    {{0x14, 0x00, 0x00, 0, 0, 0}, 4}, {{0x14, 0x0F, 0xFF, 0, 0, 0}, 4},
+    /* density, width and hot are free */
+    {{0x16, 0x05, 0xDC, 0, 0, 0}, 0}, {{0x15, 0x05, 0xDC, 0, 0, 0}, 0},
+    {{0x14, 0x85, 0xDC, 0, 0, 0}, 0}, {{0x17, 0x85, 0xDC, 0, 0, 0}, 0},
+};
+
+static const uint8_t ZEROS[SIX] = {0, 0, 0, 0, 0, 0};
+
+#define ROWS(table) (sizeof(table) / sizeof(table)[0])
+
+static void registers_by_table(void)
+{
+    unsigned long row;
+    size_t length;
+    for (row = 0; row < ROWS(ALLOWED); row++)
+        for (length = 0; length <= MOST; length++)
+            reading("register allowed", row, ALLOWED[row].header, SIX, ALLOWED[row].number,
+                    ALLOWED[row].code, length, length < SIX ? 9 : 0, ALLOWED[row].six);
+    for (row = 0; row < ROWS(NOT_ALLOWED); row++)
+        for (length = SIX; length <= SIX + 1; length++)
+            reading("register not allowed", row, NOT_ALLOWED[row].header, SIX,
+                    NOT_ALLOWED[row].number, NOT_ALLOWED[row].code, length, 11, ZEROS);
+    for (row = 0; row < ROWS(HEADERS); row++)
+        for (length = SIX; length <= SIX + 1; length++)
+            reading("register header", row, HEADERS[row].header, SIX, 3, 0, length,
+                    HEADERS[row].wanted, ZEROS);
+}
+
+/* Headers of every length but 6, the first bytes those of a good one. */
+static void header_lengths(void)
+{
+    uint8_t header[MOST] = {0x14, 0x05, 0xDC};
+    size_t length;
+    for (length = 0; length <= MOST; length++)
+        reading("header length", length, header, length, 3, 0, SIX, length == SIX ? 0 : 1, ZEROS);
+}
+
+/* In the order of the checks. */
+static const uint32_t REGISTER_ORDER[] = {9, 1, 2, 3, 4, 11};
+
+static const size_t NOT_SIX[] = {3, 5, 7};
+
+/* A reading in which just the refusals of the set hold, bit i for REGISTER_ORDER[i]. */
+static void refused_by(unsigned set, size_t not_six)
+{
+    uint8_t header[7] = {0x14, 0x05, 0xDC, 0, 0, 0, 0};
+    size_t out_len = set & 1 ? SIX - 1 : SIX;
+    size_t header_len = set >> 1 & 1 ? not_six : SIX;
+    unsigned bad = set >> 5 & 1;
+    uint32_t wanted = 0;
+    unsigned i;
+    for (i = 0; i < 6 && wanted == 0; i++)
+        if (set >> i & 1)
+            wanted = REGISTER_ORDER[i];
+    if (set >> 2 & 1)
+        header[0] = 0x24;
+    if (set >> 3 & 1)
+        header[1] = 0x45;
+    if (set >> 4 & 1)
+        header[2] = 0xDB;
+    reading("refusals at once, by code", set, header, header_len, 3, (uint16_t)bad, out_len, wanted, ZEROS);
+    reading("refusals at once, by number", set, header, header_len, 3 + bad, 0, out_len, wanted, ZEROS);
+}
+
+static void registers_refused(void)
+{
+    unsigned set;
+    size_t i;
+    for (set = 0; set < 64; set++)
+        for (i = 0; i < ROWS(NOT_SIX); i++)
+            if (i == 0 || set >> 1 & 1)
+                refused_by(set, NOT_SIX[i]);
+}
+
+/* A null pointer with length 0, for the header, for out, for both. */
+static void registers_of_null(void)
+{
+    static const uint8_t BAD[SIX] = {0x24, 0x45, 0xDB, 0, 0, 1};
+    unsigned kind;
+    uint32_t got;
+    for (kind = 0; kind <= BLOCK; kind++) {
+        uint8_t *out = lend(kind, SIX);
+        got = manilaply_register(0, 0, 3, 0, out, SIX);
+        count(holds(kind, out, SIX, ZEROS, 0) && got == 1, "null header", kind, 1, got);
+    }
+    got = manilaply_register(P1, SIX, 3, 0, 0, 0);
+    count(got == 9, "null out", 0, 9, got);
+    got = manilaply_register(BAD, SIX, 4, 1, 0, 0);
+    count(got == 9, "null out, all else bad", 0, 9, got);
+    got = manilaply_register(0, 0, 3, 0, 0, 0);
+    count(got == 9, "null header and out", 0, 9, got);
+}
+
+/* ---- burst order */
+
+/* The words by start 0 to 7. */
+static const uint8_t EIGHT_SEQUENTIAL[8][8] = {
+    {0, 1, 2, 3, 4, 5, 6, 7}, {1, 2, 3, 0, 5, 6, 7, 4}, {2, 3, 0, 1, 6, 7, 4, 5}, {3, 0, 1, 2, 7, 4, 5, 6},
+    {4, 5, 6, 7, 0, 1, 2, 3}, {5, 6, 7, 4, 1, 2, 3, 0}, {6, 7, 4, 5, 2, 3, 0, 1}, {7, 4, 5, 6, 3, 0, 1, 2},
+};
+static const uint8_t EIGHT_INTERLEAVE[8][8] = {
+    {0, 1, 2, 3, 4, 5, 6, 7}, {1, 0, 3, 2, 5, 4, 7, 6}, {2, 3, 0, 1, 6, 7, 4, 5}, {3, 2, 1, 0, 7, 6, 5, 4},
+    {4, 5, 6, 7, 0, 1, 2, 3}, {5, 4, 7, 6, 1, 0, 3, 2}, {6, 7, 4, 5, 2, 3, 0, 1}, {7, 6, 5, 4, 3, 2, 1, 0},
+};
+static const uint8_t FOUR_SEQUENTIAL[8][4] = {
+    {0, 1, 2, 3}, {1, 2, 3, 0}, {2, 3, 0, 1}, {3, 0, 1, 2},
+    {4, 5, 6, 7}, {5, 6, 7, 4}, {6, 7, 4, 5}, {7, 4, 5, 6},
+};
+static const uint8_t FOUR_INTERLEAVE[8][4] = {
+    {0, 1, 2, 3}, {1, 0, 3, 2}, {2, 3, 0, 1}, {3, 2, 1, 0},
+    {4, 5, 6, 7}, {5, 4, 7, 6}, {6, 7, 4, 5}, {7, 6, 5, 4},
+};
+static const uint8_t EIGHT_WRITE[8] = {0, 1, 2, 3, 4, 5, 6, 7};
+static const uint8_t FOUR_WRITE[8][4] = {
+    {0, 1, 2, 3}, {0, 1, 2, 3}, {0, 1, 2, 3}, {0, 1, 2, 3},
+    {4, 5, 6, 7}, {4, 5, 6, 7}, {4, 5, 6, 7}, {4, 5, 6, 7},
+};
+
+static const uint8_t *burst_words(uint32_t length, uint32_t start, int interleave, int writes)
+{
+    if (length == 8)
+        return writes ? EIGHT_WRITE : interleave ? EIGHT_INTERLEAVE[start] : EIGHT_SEQUENTIAL[start];
+    return writes ? FOUR_WRITE[start] : interleave ? FOUR_INTERLEAVE[start] : FOUR_SEQUENTIAL[start];
+}
+
+/* One burst on a buffer of out_len bytes, of each kind. */
+static void burst(const char *table, unsigned long row, uint32_t length, uint32_t start, uint32_t type,
+                  uint32_t direction, size_t out_len, uint32_t wanted, const uint8_t *words)
+{
+    unsigned kind;
+    for (kind = 0; kind <= BLOCK; kind++) {
+        uint8_t *out = lend(kind, out_len);
+        uint32_t got = manilaply_burst(length, start, type, direction, out, out_len);
+        int good = holds(kind, out, out_len, words, wanted == 0 ? length : 0);
+        count(good && got == wanted, table, row, wanted, got);
+    }
+}
+
+/* The first of these is 0, and any other number is the other. */
+static const uint32_t EITHER[] = {0, 1, 2, 3, 256, 65536, 0x80000000, 0xFFFFFFFF};
+
+static void bursts_by_table(void)
+{
+    unsigned long type, direction;
+    uint32_t length, start;
+    size_t out_len;
+    for (length = 4; length <= 8; length += 4)
+        for (start = 0; start < 8; start++)
+            for (type = 0; type < ROWS(EITHER); type++)
+                for (direction = 0; direction < ROWS(EITHER); direction++)
+                    burst("burst", start, length, start, EITHER[type], EITHER[direction], length, 0,
+                          burst_words(length, start, type != 0, direction != 0));
+    for (length = 4; length <= 8; length += 4)
+        for (start = 0; start < 8; start++)
+            for (type = 0; type < 2; type++)
+                for (direction = 0; direction < 2; direction++)
+                    for (out_len = 0; out_len <= MOST; out_len++)
+                        burst("burst by room", out_len, length, start, (uint32_t)type, (uint32_t)direction,
+                              out_len, out_len < length ? 9 : 0,
+                              burst_words(length, start, type != 0, direction != 0));
+}
+
+static const uint32_t LENGTHS[] = {0, 1, 2, 3, 5, 6, 7, 9, 12, 16, 260, 264, 65540, 0x80000008, 0xFFFFFFFF};
+static const uint32_t STARTS[] = {8, 9, 15, 16, 255, 256, 263, 65536, 0x80000007, 0xFFFFFFFF};
+
+/* 10 by the length, by the start, by both; each also where the buffer is too short, which is 9. */
+static void bursts_refused(void)
+{
+    unsigned long i, j;
+    size_t out_len;
+    for (out_len = 0; out_len <= 9; out_len++) {
+        for (i = 0; i < ROWS(LENGTHS); i++)
+            for (j = 0; j < 8; j++)
+                burst("burst length", i, LENGTHS[i], (uint32_t)j, 0, 1, out_len, 10, ZEROS);
+        for (i = 0; i < ROWS(STARTS); i++)
+            for (j = 4; j <= 8; j += 4)
+                burst("burst start", i, (uint32_t)j, STARTS[i], 1, 0, out_len, 10, ZEROS);
+        for (i = 0; i < ROWS(LENGTHS); i++)
+            for (j = 0; j < ROWS(STARTS); j++)
+                burst("burst length and start", i, LENGTHS[i], STARTS[j], 1, 1, out_len, 10, ZEROS);
+    }
+}
+
+/* A null pointer with length 0. */
+static void bursts_of_null(void)
+{
+    uint32_t got = manilaply_burst(8, 0, 0, 0, 0, 0);
+    count(got == 9, "burst to null", 8, 9, got);
+    got = manilaply_burst(4, 7, 1, 1, 0, 0);
+    count(got == 9, "burst to null", 4, 9, got);
+    got = manilaply_burst(5, 0, 0, 0, 0, 0);
+    count(got == 10, "burst to null", 5, 10, got);
+    got = manilaply_burst(8, 8, 0, 0, 0, 0);
+    count(got == 10, "burst to null, start 8", 8, 10, got);
+}
+
+int main(void)
+{
+    registers_by_table();
+    header_lengths();
+    registers_refused();
+    registers_of_null();
+    bursts_by_table();
+    bursts_refused();
+    bursts_of_null();
+    say("boundary: ");
+    say_number(checks);
+    say(" checks, ");
+    say_number(wrong);
+    say(" wrong\n");
+    return wrong != 0;
+}
