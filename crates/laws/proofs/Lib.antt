@@ -2,3 +2,4 @@
 pub mod Unique
 pub mod Table
 pub mod Lent
+pub mod Eight

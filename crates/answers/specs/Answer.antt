@@ -1,0 +1,29 @@
+-- The bytes of a verdict and the fields of a bank: 01, "The recording", below the table of refusals.
+-- Assumes nothing.
+use Prim.Native.Nat.{ℕ, _/_, _%_}
+use mathlib.Core.List.{List, [], _∷_, _++_}
+use Rattle.answers.specs.declared.Bank.{Bank}
+use Rattle.answers.specs.declared.Bank.the-variants.{Idle, Open, Closing}
+use Rattle.answers.specs.declared.Shown.{Shown}
+use Rattle.answers.specs.declared.Verdict.{Verdict}
+
+-- a number in 8, 24 and 48 bits, most significant first
+abbrev pub bytes1 : ℕ → List ℕ → List ℕ
+bytes1 n rest = n % 256 ∷ rest
+
+abbrev pub bytes3 : ℕ → List ℕ → List ℕ
+bytes3 n rest = n / 65536 % 256 ∷ n / 256 % 256 ∷ bytes1 n rest
+
+abbrev pub bytes6 : ℕ → List ℕ → List ℕ
+bytes6 n rest = n / 1099511627776 % 256 ∷ n / 4294967296 % 256 ∷ n / 16777216 % 256 ∷ bytes3 n rest
+
+-- "outcome 8 (0 clean, 1 broken), rule 8, record 24, partner 24, edge 48, needed 24, found 24"
+unfoldable pub verdictBytes : Verdict → List ℕ
+verdictBytes v =
+    bytes1 (v .outcome) (bytes1 (v .rule) (bytes3 (v .number) (bytes3 (v .partner) (bytes6 (v .edge) (bytes3 (v .needed) (bytes3 (v .found) []))))))
+
+-- "A bank is idle, open or closing, with row (A15..A0) and ACT edge unless idle": 0, 1, 2 for the three
+abbrev pub shownOf : Bank → Shown
+shownOf Idle = record { status = 0; row = 0; act = 0 }
+shownOf (Open at num row) = record { status = 1; row = row; act = at }
+shownOf (Closing at num row) = record { status = 2; row = row; act = at }

@@ -1,0 +1,2 @@
+pub mod Chip
+pub mod Latencies

@@ -1,0 +1,46 @@
+-- A list with an element for each of eight banks.
+-- Assumes nothing.
+use Prim.Native.Nat.{ℕ, zero, suc, _<_}
+use native.Mathlib.Omega.{arith}
+use mathlib.Core.Path.{_≡_, refl, ap, fun-ext}
+use mathlib.Core.Bool.{cond}
+use mathlib.Core.List.{List, [], _∷_}
+use lib.ListN.{getD, set}
+use lib.Dec.{eqb}
+use Rattle.laws.specs.Eight.{table}
+
+module _ {A : Type 0} where
+  pub getD-table : (f : ℕ → A) (b : ℕ) (d : A) → b < 8 → getD (table f) b d ≡ f b
+  unfolding table
+  getD-table f zero d h = refl
+  getD-table f (suc zero) d h = refl
+  getD-table f (suc (suc zero)) d h = refl
+  getD-table f (suc (suc (suc zero))) d h = refl
+  getD-table f (suc (suc (suc (suc zero)))) d h = refl
+  getD-table f (suc (suc (suc (suc (suc zero))))) d h = refl
+  getD-table f (suc (suc (suc (suc (suc (suc zero)))))) d h = refl
+  getD-table f (suc (suc (suc (suc (suc (suc (suc zero))))))) d h = refl
+  getD-table f (suc (suc (suc (suc (suc (suc (suc (suc n)))))))) d h = absurd (omega arith)
+
+  pub set-table : (f : ℕ → A) (b : ℕ) (v : A) → b < 8 → set (table f) b v ≡ table (λ c. cond (eqb b c) v (f c))
+  unfolding table
+  set-table f zero v h = refl
+  set-table f (suc zero) v h = refl
+  set-table f (suc (suc zero)) v h = refl
+  set-table f (suc (suc (suc zero))) v h = refl
+  set-table f (suc (suc (suc (suc zero)))) v h = refl
+  set-table f (suc (suc (suc (suc (suc zero))))) v h = refl
+  set-table f (suc (suc (suc (suc (suc (suc zero)))))) v h = refl
+  set-table f (suc (suc (suc (suc (suc (suc (suc zero))))))) v h = refl
+  set-table f (suc (suc (suc (suc (suc (suc (suc (suc n)))))))) v h = absurd (omega arith)
+
+  pub table-ext : (f g : ℕ → A) → ((b : ℕ) → f b ≡ g b) → table f ≡ table g
+  table-ext f g h = ap table (fun-ext h)
+
+  -- what holds of the new element and of the old one holds at each place after a store
+  pub at-set : (P : A → Type 0) (d : A) (xs : List A) (i : ℕ) (v : A) (b : ℕ) → P v → P (getD xs b d) → P (getD (set xs i v) b d)
+  at-set P d [] i v b p q = q
+  at-set P d (x ∷ xs) zero v zero p q = p
+  at-set P d (x ∷ xs) zero v (suc b) p q = q
+  at-set P d (x ∷ xs) (suc i) v zero p q = q
+  at-set P d (x ∷ xs) (suc i) v (suc b) p q = at-set P d xs i v b p q
