@@ -1,0 +1,67 @@
+-- Rules 24 and 25, which can pass at an edge with no record: 01, "Commands and the 25 rules", last of the rules.
+-- Assumes nothing.
+use Prim.Native.Nat.{ℕ, _+_, _-_, _/_}
+use mathlib.Core.Bool.{Bool, false, cond, not, _&&_, _||_}
+use mathlib.Core.List.{[], _∷_}
+use lib.Dec.{eqb, leb}
+use Rattle.records.specs.declared.Command.the-variants.{Ref, Sre, Srx}
+use Rattle.chip.specs.declared.Chip.{Chip}
+use Rattle.answers.specs.declared.Bank.{Bank}
+use Rattle.answers.specs.declared.Bank.the-variants.{Idle, Open, Closing}
+use Rattle.answers.specs.declared.Break.{Break}
+use Rattle.answers.specs.declared.Break.the-variants.{Fine, Broken}
+use Rattle.rules.specs.Past.{Past, edge, number, is, latest, upTo}
+use Rattle.rules.specs.Banks.{actNum, status}
+use Rattle.rules.specs.Search.{orElse, lowest}
+
+-- ── Rule 24 ─────────────────────────────────────────────────────────────────────────────────
+
+-- "24 A bank's precharge must start no later than ACT + greatest tRAS; broken one edge after": at t, of a bank's status one edge before
+abbrev pub over : (most : ℕ) → Bank → ℕ → Bool
+over m Idle t = false
+over m (Open at num row) t = eqb (at + m + 1) t
+over m (Closing at num row) t = eqb (at + m + 1) t
+
+-- "24 the ACT"; "needed its limit, found one more"
+abbrev pub late : (most : ℕ) → Bank → ℕ → Break
+late m k t = cond (over m k t) (Broken 24 (actNum k) m (m + 1)) Fine
+
+-- rule 24 at edge t of the recording p
+abbrev pub rule24 : Chip → Past → ℕ → Break
+rule24 C p t = let q = upTo (t - 1) p in lowest (λ n. late (C .most) (status C n q (t - 1)) t) 8
+
+-- ── Rule 25 ─────────────────────────────────────────────────────────────────────────────────
+
+-- "after SRE up to and including SRX": the latest of the two is an SRE
+unfoldable pub asleep : Past → Bool
+asleep [] = false
+asleep (r ∷ p) = is Sre (r ∷ p) || (not (is Srx (r ∷ p)) && asleep p)
+
+-- "The awake clock counts edges from 1, but not those after SRE up to and including SRX": at the latest record, and at an edge t
+-- after it
+unfoldable pub awakeTo : Past → ℕ
+awakeTo [] = 0
+awakeTo (r ∷ p) = awakeTo p + cond (asleep p) 0 (r .step)
+
+unfoldable pub awakeAt : Past → ℕ → ℕ
+awakeAt p t = awakeTo p + cond (asleep p) 0 (t - edge p)
+
+-- "Refresh debt starts at 0, rises by 1 at each positive multiple of tREFI's clocks on the awake clock, then falls by 1 at a REF,
+-- never below -8". `owed` is the debt PLUS 8, a natural number: 0 is a debt of -8, 8 one of 0, 17 one of 9. After the latest record,
+-- and at an edge t after it; T is tREFI's clocks
+unfoldable pub owedTo : ℕ → Past → ℕ
+owedTo T [] = 8
+owedTo T (r ∷ p) = owedTo T p + (awakeAt p (edge (r ∷ p)) / T - awakeTo p / T) - cond (is Ref (r ∷ p)) 1 0
+
+unfoldable pub owedAt : ℕ → Past → ℕ → ℕ
+owedAt T p t = owedTo T p + (awakeAt p t / T - awakeTo p / T)
+
+-- rule 25 at edge t of the recording p: "broken at 9 after the edge's command"; "25 the last REF or none"; "needed 8, found 9"
+abbrev pub rule25 : Chip → Past → ℕ → Break
+rule25 C p t = let q = upTo t p in cond (leb 17 (owedAt (C .trefi) q t)) (Broken 25 (number (latest (is Ref) q)) 8 9) Fine
+
+-- ── Both ────────────────────────────────────────────────────────────────────────────────────
+
+-- what passes at edge t with or without a record, by number
+abbrev pub deadlineAt : Chip → Past → ℕ → Break
+deadlineAt C p t = orElse (rule24 C p t) (rule25 C p t)
