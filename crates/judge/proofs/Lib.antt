@@ -1,0 +1,5 @@
+pub mod Marking
+pub mod Sections
+pub mod Ranging
+pub mod Folds
+pub mod Closing

@@ -1,0 +1,21 @@
+-- The ranges one after the other.
+-- Assumes nothing.
+use borrow.Author.Tests.{lt-ltb, le-ltb, le-leb, lt-leb, eq-eqb, ne-eqb}
+use mathlib.Core.Path.{refl, sym, ap, _∙_}
+use Rattle.judge.specs.Ranges.{inRange}
+use borrow.Author.Needs.{needs}
+use Rattle.judge.proofs.ranges.in_range.Statement.{statement}
+use Rattle.judge.proofs.ranges.in_range.Tie as tie
+
+counted-requires : tie.Need-counted-requires
+counted-requires c κs = search needs
+
+banks-ok-requires : tie.Need-banks-ok-requires
+banks-ok-requires c κs = search needs
+
+returns : tie.Need-returns
+unfolding inRange
+returns c = simp (c .banks-ok .ensures, c .before .before .before .before .counted .ensures)
+
+pub in-range-spec : {M : Type 1} → statement M
+in-range-spec = tie.close (tie.spec counted-requires banks-ok-requires returns)

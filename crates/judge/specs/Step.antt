@@ -1,0 +1,117 @@
+-- A record's effect on the state, and the verdict so far.
+-- Assumes nothing.
+use Prim.Native.Nat.{ℕ, _+_}
+use mathlib.Core.Bool.{Bool, cond}
+use mathlib.Core.List.{List, [], _∷_}
+use lib.Dec.{eqb, ltb}
+use lib.ListN.{getD}
+use Rattle.answers.specs.declared.Break.{Break}
+use Rattle.answers.specs.declared.Break.the-variants.{Fine, Broken}
+use Rattle.answers.specs.declared.Verdict.{Verdict}
+use Rattle.records.specs.declared.Record.{Record}
+use Rattle.records.specs.declared.Command.{Command}
+use Rattle.records.specs.Command.{commandOf, bankIn}
+use Rattle.chip.specs.declared.Chip.{Chip}
+use Rattle.judge.specs.declared.Kept.{Kept}
+use Rattle.judge.specs.declared.Late.{Late}
+use Rattle.judge.specs.declared.Shared.{Shared}
+use Rattle.judge.specs.declared.State.{State}
+use Rattle.judge.specs.declared.Turn.{Turn}
+use Rattle.judge.specs.Marks.{empty, noVerdict}
+use Rattle.judge.specs.Next.{banksNext, duesNext, sharedNext}
+use Rattle.judge.specs.Breaks.{orElse, joined, rule2, rule3, spacings}
+use Rattle.judge.specs.Deadlines.{why, sooner, late25, next24, owing}
+
+abbrev pub brokenAt : (edge num rule partner needed found : ℕ) → Verdict
+brokenAt e n k p m f = record { outcome = 1; rule = k; number = n; partner = p; edge = e; needed = m; found = f }
+
+-- a break at an edge with the number of its record, 0 for none; Fine: nothing yet
+abbrev pub verdictAt : (edge num : ℕ) → Break → Verdict
+verdictAt e n Fine = noVerdict
+verdictAt e n (Broken k p m f) = brokenAt e n k p m f
+
+-- at edge e: what its record breaks; else the deadline that passes, with no record
+abbrev pub say : (edge num : ℕ) → (own deadline : Break) → Verdict
+say e n (Broken k p m f) d = brokenAt e n k p m f
+say e n Fine d = verdictAt e 0 d
+
+-- a deadline that passes at edge e itself
+abbrev pub lateAt : (edge : ℕ) → Late → Break
+lateAt e x = cond (eqb (x .at) e) (why x) Fine
+
+-- of the gap before a record and of its edge e: a deadline that passes before e; else what the record, number n, breaks; else a
+-- deadline that passes at e, where so much is owed after the record
+unfoldable pub saysBy : (e n : ℕ) → (x24 x25 : Late) → Break → (owed partner : ℕ) → Verdict
+saysBy e n x24 x25 b owed partner =
+    cond (ltb (sooner x24 x25 .at) e) (verdictAt (sooner x24 x25 .at) 0 (why (sooner x24 x25)))
+    (say e n b (orElse (lateAt e x24) (owing owed partner)))
+
+-- what a record does while nothing is broken: the verdict, or noVerdict, and what all banks share after it
+unfoldable pub turnOf : Chip → Command → Record → (e n edge : ℕ) → Kept → (two : Break) → (x24 : Late) → Shared → Turn
+turnOf C c r e n edge k two x24 s =
+    let t = sharedNext C c r e n (k .acted .at) s in
+    record {
+      verdict =
+          saysBy e n x24 (late25 (C .trefi) (s .debt) (s .rests .refreshed .num) edge (e + 1))
+          (joined c two (rule3 C c r (s .written)) (spacings C c r e k s)) (t .debt .owed) (t .rests .refreshed .num);
+      shared = t;
+    }
+
+abbrev pub commandIn : State → Record → Command
+commandIn s r = commandOf (s .shared .level) r
+
+abbrev pub ownBank : State → Record → Kept
+ownBank s r = getD (s .banks) (bankIn r) empty
+
+unfoldable pub turnIn : Chip → State → Record → Turn
+turnIn C s r =
+    turnOf C (commandIn s r) r (s .edge + r .step) (s .count + 1) (s .edge) (ownBank s r)
+    (rule2 (commandIn s r) r (s .banks) (s .edge + r .step)) (next24 C s (s .edge + r .step + 1)) (s .shared)
+
+-- the state after a clean record, of which all banks share t
+unfoldable pub movedOf : Chip → State → Record → Shared → State
+movedOf C s r t =
+    record {
+      header = s .header;
+      edge = s .edge + r .step;
+      count = s .count + 1;
+      first = s .first;
+      banks = banksNext C (commandIn s r) r (s .edge + r .step) (s .count + 1) (t .regs) (s .banks);
+      dues = duesNext C (commandIn s r) r (s .edge + r .step) (s .count + 1) (t .regs) (s .banks) (s .dues);
+      shared = t;
+    }
+
+-- "Once broken, later sections are still checked and counted, but verdict, banks, registers and debt stay as they were"
+unfoldable pub stoppedOf : State → Record → Verdict → State
+stoppedOf s r v =
+    record {
+      header = s .header;
+      edge = s .edge + r .step;
+      count = s .count + 1;
+      first = v;
+      banks = s .banks;
+      dues = s .dues;
+      shared = s .shared;
+    }
+
+abbrev pub isClean : Verdict → Bool
+isClean v = eqb (v .outcome) 0
+
+-- one record
+unfoldable pub stepOf : Chip → State → Record → State
+stepOf C s r =
+    cond (isClean (s .first))
+    (cond (isClean (turnIn C s r .verdict)) (movedOf C s r (turnIn C s r .shared)) (stoppedOf s r (turnIn C s r .verdict)))
+    (stoppedOf s r (s .first))
+
+abbrev pub foldOf : Chip → State → List Record → State
+foldOf C s [] = s
+foldOf C s (r ∷ rs) = foldOf C (stepOf C s r) rs
+
+-- "Clean: rule, partner, needed, found are 0, record is the number of records, edge is the end edge"
+abbrev pub cleanAt : (count end : ℕ) → Verdict
+cleanAt n t = record { outcome = 0; rule = 0; number = n; partner = 0; edge = t; needed = 0; found = 0 }
+
+-- "After each section the verdict so far is as if closed at the last record's edge so far"
+unfoldable pub soFar : State → Verdict
+soFar s = cond (isClean (s .first)) (cleanAt (s .count) (s .edge)) (s .first)

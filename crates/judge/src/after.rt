@@ -1,0 +1,318 @@
+// What all banks share, after a record.
+use crate::Debt;
+use crate::Mark;
+use crate::Read;
+use crate::Shared;
+use crate::Written;
+use crate::Wrote;
+use crate::needs::need10;
+use crate::needs::need11;
+use crate::needs::need13;
+use crate::needs::need14;
+use crate::needs::need19;
+use crate::needs::rd_start;
+use crate::needs::wr_start;
+use crate::spaced::since;
+use chip::Chip;
+use chip::Regs;
+use records::Command;
+use records::Record;
+ghost use mathlib.Core.Path.{_≡_};
+ghost use Prim.Native.Nat.{_/_, _%_, _≤_};
+ghost use mathlib.Core.Bool.{cond};
+ghost use Rattle.records.specs.declared.Command.the-variants.{Act, Pre, Rd, Wr, Mrs, Ref, Zq, Sre, Srx};
+ghost use Rattle.judge.specs.Next as next;
+ghost use Rattle.judge.specs.Ranges.{Small, farEdge};
+
+// a: the ACT edge of the record's bank.
+pub(crate) fn shared_next(
+    chip: Chip,
+    c: Command,
+    r: Record,
+    e: u64,
+    n: u64,
+    a: u64,
+    s: Shared,
+) -> Shared
+    requires { ⌜ Small chip ⌝ }
+    requires { ⌜ e ≤ farEdge ⌝ }
+    requires { ⌜ a ≤ farEdge ⌝ }
+    requires { ⌜ next.Calm (s .debt) (r .step) ⌝ }
+    ensures { λ x. ⌜ x ≡ next.sharedNext chip c r e n a s ⌝ }
+{
+    let debt = debt_next(chip, c, r.step, s.debt);
+    let mut x = s;
+    x.now = e;
+    x.level = r.cke;
+    x.debt = debt;
+    marked_next(chip, c, r, e, n, a, x)
+}
+
+fn marked_next(chip: Chip, c: Command, r: Record, e: u64, n: u64, a: u64, s: Shared) -> Shared
+    requires { ⌜ Small chip ⌝ }
+    requires { ⌜ e ≤ farEdge ⌝ }
+    requires { ⌜ a ≤ farEdge ⌝ }
+    ensures { λ x. ⌜ x ≡ next.markedNext chip c r e n a s ⌝ }
+{
+    match c {
+        Command::Mrs => after_mrs(chip, r, e, n, a, s),
+        Command::Ref => after_ref(chip, r, e, n, a, s),
+        Command::Pre => after_pre(chip, r, e, n, a, s),
+        Command::Act => after_act(chip, r, e, n, a, s),
+        Command::Wr => after_wr(chip, r, e, n, a, s),
+        Command::Rd => after_rd(chip, r, e, n, a, s),
+        Command::Zq => after_zq(chip, r, e, n, a, s),
+        Command::Nop => s,
+        Command::Des => s,
+        Command::Sre => after_sre(chip, r, e, n, a, s),
+        Command::Srx => after_srx(chip, r, e, n, a, s),
+        Command::Low => s,
+        Command::Bad => s,
+    }
+}
+
+// Edges pass on the awake clock; then a REF takes one interval off, not below 0 owed, that is a debt of -8.
+fn debt_next(chip: Chip, c: Command, step: u64, d: Debt) -> Debt
+    requires { ⌜ Small chip ⌝ }
+    requires { ⌜ next.Calm d step ⌝ }
+    ensures { λ x. ⌜ x ≡ next.debtNext chip c step d ⌝ }
+{
+    let k = records::rank_of(c);
+    let total = d.phase + awake(d.sleeps, step);
+    let owed = d.owed + whole(total, chip.trefi);
+    Debt {
+        sleeps: (k == 9) | (!(k == 10) & d.sleeps),
+        phase: rest(total, chip.trefi),
+        owed: since(owed, one(k == 1)),
+    }
+}
+
+pub(crate) fn awake(sleeps: bool, step: u64) -> u64
+    ensures { λ r. ⌜ r ≡ cond sleeps 0 step ⌝ }
+    ensures { λ r. ⌜ r ≤ step ⌝ }
+{
+    if sleeps {
+        return 0;
+    }
+    step
+}
+
+fn one(yes: bool) -> u64
+    ensures { λ r. ⌜ r ≡ cond yes 1 0 ⌝ }
+{
+    if yes {
+        return 1;
+    }
+    0
+}
+
+// Whole intervals, and what is left of one; nearly always fewer edges than an interval pass, and nothing is divided.
+pub(crate) fn whole(total: u64, interval: u64) -> u64
+    requires { ⌜ 1 ≤ interval ⌝ }
+    ensures { λ r. ⌜ r ≡ total / interval ⌝ }
+    ensures { λ r. ⌜ r ≤ total ⌝ }
+{
+    if total < interval {
+        return 0;
+    }
+    total / interval
+}
+
+fn rest(total: u64, interval: u64) -> u64
+    requires { ⌜ 1 ≤ interval ⌝ }
+    ensures { λ r. ⌜ r ≡ total % interval ⌝ }
+{
+    if total < interval {
+        return total;
+    }
+    total % interval
+}
+
+fn mark(e: u64, n: u64, need: u64) -> Mark
+    ensures { λ r. ⌜ r ≡ next.mark e n need ⌝ }
+{
+    Mark {
+        at: e,
+        num: n,
+        need: need,
+    }
+}
+
+fn after_act(chip: Chip, r: Record, e: u64, n: u64, a: u64, s: Shared) -> Shared
+    ensures { λ x. ⌜ x ≡ next.markedNext chip Act r e n a s ⌝ }
+{
+    let a0 = s.acts[0];
+    let a1 = s.acts[1];
+    let a2 = s.acts[2];
+    let mut x = s;
+    x.acts = [mark(e, n, chip.tras), a0, a1, a2];
+    x
+}
+
+fn after_pre(chip: Chip, r: Record, e: u64, n: u64, a: u64, s: Shared) -> Shared
+    ensures { λ x. ⌜ x ≡ next.markedNext chip Pre r e n a s ⌝ }
+{
+    let mut x = s;
+    x.shut = later_start(s.shut, e, n, chip.trp);
+    x
+}
+
+// The greatest start so far, of equals the later.
+fn later_start(m: Mark, f: u64, n: u64, trp: u64) -> Mark
+    ensures { λ x. ⌜ x ≡ next.laterStart m f n trp ⌝ }
+{
+    if m.at <= f {
+        return mark(f, n, trp);
+    }
+    m
+}
+
+fn after_rd(chip: Chip, r: Record, e: u64, n: u64, a: u64, s: Shared) -> Shared
+    requires { ⌜ Small chip ⌝ }
+    requires { ⌜ e ≤ farEdge ⌝ }
+    requires { ⌜ a ≤ farEdge ⌝ }
+    ensures { λ x. ⌜ x ≡ next.markedNext chip Rd r e n a s ⌝ }
+{
+    let g = s.regs;
+    let mut x = s;
+    let read = Read {
+        at: e,
+        num: n,
+        n10: need10(chip, g),
+        n13: need13(g, r.a),
+        n19: need19(g, r.a),
+    };
+    x.read = read;
+    if r.a / 1024 % 2 == 1 {
+        let f = rd_start(chip, e, g, a);
+        x.shut = later_start(s.shut, f, n, chip.trp);
+        return x;
+    }
+    x
+}
+
+fn after_wr(chip: Chip, r: Record, e: u64, n: u64, a: u64, s: Shared) -> Shared
+    requires { ⌜ Small chip ⌝ }
+    requires { ⌜ e ≤ farEdge ⌝ }
+    ensures { λ x. ⌜ x ≡ next.markedNext chip Wr r e n a s ⌝ }
+{
+    let g = s.regs;
+    let mut x = s;
+    let wrote = Wrote {
+        at: e,
+        num: n,
+        n11: need11(chip, g),
+        n14: need14(chip, g),
+    };
+    x.wrote = wrote;
+    if r.a / 1024 % 2 == 1 {
+        let f = wr_start(chip, e, g, a);
+        x.shut = later_start(s.shut, f, n, chip.trp);
+        return x;
+    }
+    x
+}
+
+fn after_ref(chip: Chip, r: Record, e: u64, n: u64, a: u64, s: Shared) -> Shared
+    ensures { λ x. ⌜ x ≡ next.markedNext chip Ref r e n a s ⌝ }
+{
+    let mut rests = s.rests;
+    let mut x = s;
+    let refreshed = mark(e, n, chip.trfc);
+    rests.refreshed = refreshed;
+    x.rests = rests;
+    x
+}
+
+fn after_zq(chip: Chip, r: Record, e: u64, n: u64, a: u64, s: Shared) -> Shared
+    ensures { λ x. ⌜ x ≡ next.markedNext chip Zq r e n a s ⌝ }
+{
+    let mut rests = s.rests;
+    let mut x = s;
+    if r.a / 1024 % 2 == 1 {
+        let tuned = mark(e, n, chip.zqlong);
+        rests.tuned = tuned;
+        x.rests = rests;
+        return x;
+    }
+    let tuned = mark(e, n, chip.zqshort);
+    rests.tuned = tuned;
+    x.rests = rests;
+    x
+}
+
+fn after_sre(chip: Chip, r: Record, e: u64, n: u64, a: u64, s: Shared) -> Shared
+    requires { ⌜ Small chip ⌝ }
+    ensures { λ x. ⌜ x ≡ next.markedNext chip Sre r e n a s ⌝ }
+{
+    let mut rests = s.rests;
+    let mut x = s;
+    let slept = mark(e, n, chip.tcke + 1);
+    rests.slept = slept;
+    x.rests = rests;
+    x
+}
+
+fn after_srx(chip: Chip, r: Record, e: u64, n: u64, a: u64, s: Shared) -> Shared
+    ensures { λ x. ⌜ x ≡ next.markedNext chip Srx r e n a s ⌝ }
+{
+    let mut rests = s.rests;
+    let mut x = s;
+    let reset = mark(e, n, 512);
+    rests.reset = reset;
+    let woke = mark(e, n, chip.txs);
+    rests.woke = woke;
+    x.rests = rests;
+    x
+}
+
+fn after_mrs(chip: Chip, r: Record, e: u64, n: u64, a: u64, s: Shared) -> Shared
+    ensures { λ x. ⌜ x ≡ next.markedNext chip Mrs r e n a s ⌝ }
+{
+    let b = r.bank % 8;
+    let resets = (b == 0) & registers::resets(r.a);
+    let mut rests = s.rests;
+    let mut x = s;
+    x.regs = regs_set(b, r.a, s.regs);
+    x.written = written_set(b, resets, s.written);
+    x.mrs = mark(e, n, 4);
+    if resets {
+        let reset = mark(e, n, 512);
+        rests.reset = reset;
+        x.rests = rests;
+        return x;
+    }
+    x
+}
+
+fn regs_set(b: u64, code: u16, g: Regs) -> Regs
+    ensures { λ x. ⌜ x ≡ next.regsSet b code g ⌝ }
+{
+    Regs {
+        mr0: code_if(b == 0, code, g.mr0),
+        mr1: code_if(b == 1, code, g.mr1),
+        mr2: code_if(b == 2, code, g.mr2),
+        mr3: code_if(b == 3, code, g.mr3),
+    }
+}
+
+fn code_if(yes: bool, code: u16, old: u16) -> u16
+    ensures { λ x. ⌜ x ≡ cond yes code old ⌝ }
+{
+    if yes {
+        return code;
+    }
+    old
+}
+
+fn written_set(b: u64, resets: bool, w: Written) -> Written
+    ensures { λ x. ⌜ x ≡ next.writtenSet b resets w ⌝ }
+{
+    Written {
+        w0: (b == 0) | w.w0,
+        w1: (b == 1) | w.w1,
+        w2: (b == 2) | w.w2,
+        w3: (b == 3) | w.w3,
+        dll: resets | w.dll,
+    }
+}

@@ -1,0 +1,140 @@
+// What is said of the gap before a record and of its edge.
+use crate::Kept;
+use crate::Late;
+use crate::Shared;
+use crate::Turn;
+use crate::after::shared_next;
+use crate::breaks::joined;
+use crate::breaks::or_else;
+use crate::breaks::rule3;
+use crate::deadlines::late25;
+use crate::deadlines::owing;
+use crate::deadlines::sooner;
+use crate::deadlines::why;
+use crate::spacings::spacings;
+use answers::Break;
+use answers::Verdict;
+use chip::Chip;
+use records::Command;
+use records::Record;
+ghost use mathlib.Core.Path.{_≡_};
+ghost use Prim.Native.Nat.{_≤_};
+ghost use Rattle.judge.specs.Next.{Calm};
+ghost use Rattle.judge.specs.Ranges.{Small, farEdge};
+ghost use Rattle.judge.specs.Step as step;
+
+// What a record does while nothing is broken: the verdict, and what all banks share after it. two is what rule 2 says, k the
+// record's bank, x24 the first deadline of rule 24 up to the edge e.
+pub(crate) fn turn(
+    chip: Chip,
+    c: Command,
+    r: Record,
+    e: u64,
+    n: u64,
+    edge: u64,
+    k: Kept,
+    two: Break,
+    x24: Late,
+    s: Shared,
+) -> Turn
+    requires { ⌜ Small chip ⌝ }
+    requires { ⌜ (e ≤ farEdge) × (edge ≤ farEdge) ⌝ }
+    requires { ⌜ k .acted .at ≤ farEdge ⌝ }
+    requires { ⌜ Calm (s .debt) (r .step) ⌝ }
+    ensures { λ x. ⌜ x ≡ step.turnOf chip c r e n edge k two x24 s ⌝ }
+{
+    let three = rule3(chip, c, r, s.written);
+    let spacing = spacings(chip, c, r, e, k, s);
+    let broken = joined(c, two, three, spacing);
+    let x25 = late25(chip.trefi, s.debt, s.rests.refreshed.num, edge, e + 1);
+    let t = shared_next(chip, c, r, e, n, k.acted.at, s);
+    let v = says(e, n, x24, x25, broken, t.debt.owed, t.rests.refreshed.num);
+    Turn {
+        verdict: v,
+        shared: t,
+    }
+}
+
+// A deadline before the edge e; else the record's break; else a deadline at e. No break: all 0.
+fn says(e: u64, n: u64, x24: Late, x25: Late, b: Break, owed: u64, partner: u64) -> Verdict
+    ensures { λ r. ⌜ r ≡ step.saysBy e n x24 x25 b owed partner ⌝ }
+{
+    let x = sooner(x24, x25);
+    if x.at < e {
+        return verdict_at(x.at, 0, why(x));
+    }
+    say(e, n, b, or_else(late_at(e, x24), owing(owed, partner)))
+}
+
+fn say(e: u64, n: u64, b: Break, d: Break) -> Verdict
+    ensures { λ r. ⌜ r ≡ step.say e n b d ⌝ }
+{
+    match b {
+        Break::Fine => verdict_at(e, 0, d),
+        Break::Broken {
+            rule,
+            partner,
+            needed,
+            found,
+        } => broken_at(e, n, rule, partner, needed, found),
+    }
+}
+
+fn late_at(e: u64, x: Late) -> Break
+    ensures { λ r. ⌜ r ≡ step.lateAt e x ⌝ }
+{
+    if x.at == e {
+        return why(x);
+    }
+    Break::Fine
+}
+
+pub(crate) fn verdict_at(e: u64, n: u64, b: Break) -> Verdict
+    ensures { λ r. ⌜ r ≡ step.verdictAt e n b ⌝ }
+{
+    match b {
+        Break::Fine => none(),
+        Break::Broken {
+            rule,
+            partner,
+            needed,
+            found,
+        } => broken_at(e, n, rule, partner, needed, found),
+    }
+}
+
+fn broken_at(e: u64, n: u64, rule: u64, partner: u64, needed: u64, found: u64) -> Verdict
+    ensures { λ r. ⌜ r ≡ step.brokenAt e n rule partner needed found ⌝ }
+{
+    Verdict {
+        outcome: 1,
+        rule: rule,
+        number: n,
+        partner: partner,
+        edge: e,
+        needed: needed,
+        found: found,
+    }
+}
+
+pub(crate) fn none() -> Verdict
+    ensures { λ r. ⌜ r ≡ noVerdict ⌝ }
+{
+    clean_at(0, 0)
+}
+
+pub(crate) fn clean_at(count: u64, end: u64) -> Verdict
+    ensures { λ r. ⌜ r ≡ step.cleanAt count end ⌝ }
+{
+    Verdict {
+        outcome: 0,
+        rule: 0,
+        number: count,
+        partner: 0,
+        edge: end,
+        needed: 0,
+        found: 0,
+    }
+}
+
+ghost use Rattle.judge.specs.Marks.{noVerdict};
