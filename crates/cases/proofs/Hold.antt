@@ -1,19 +1,29 @@
 -- The one statement about 01's proved examples: every case of the table holds of the definitions, by computing them.
 -- Assumes nothing.
 use mathlib.Core.Path.{refl}
-use mathlib.Core.List.{List, [], _∷_}
-use mathlib.Core.Bool.{Bool, true, false, _&&_}
 use Rattle.units.specs.Round.{up, down}
+use Rattle.bits.specs.Bits.{word48}
 use Rattle.header.specs.Bins.{binOf}
-use Rattle.registers.specs.Codes.{clOfCode, wrOfCode}
-use Rattle.registers.specs.Allowed.{spanOf, clFits, allowed0, allowed}
+use Rattle.header.specs.Bytes.{headerWord, fieldsRefusal, headerRefusal, parsedOf}
+use Rattle.registers.specs.Codes.{clOfCode, wrOfCode, al}
+use Rattle.registers.specs.Allowed.{spanOf, clFits, cwlFor, allowed0, allowed1, allowed2, allowed}
 use Rattle.registers.specs.Reading.{fields0, fieldsOf}
 use Rattle.bursts.specs.Burst.{orderOf}
+use Rattle.records.specs.Record.{fieldsOf as recordFields}
+use Rattle.records.specs.Command.{byPins, falling, rising, commandOf}
+use Rattle.chip.specs.Chip.{chipOf}
+use Rattle.chip.specs.Latencies.{hOf, bOf}
+use Rattle.rules.specs.Registers.{regs}
+use Rattle.rules.specs.Banks.{start, seen}
+use Rattle.rules.specs.Search.{orElse, lowest}
+use Rattle.rules.specs.Deadlines.{asleep, awakeTo, awakeAt, owedTo, owedAt}
+use Rattle.rules.specs.Verdict.{keep}
 use Rattle.cases.specs.Case.{AllHold}
-use Rattle.cases.specs.Table.{table}
+use Rattle.cases.specs.Table.{headerP1, bytesP8, bytesP9, bytesP10, table}
+use Rattle.cases.proofs.Early.{early, judged-early}
 
 pub examples-hold : AllHold table
-unfolding table up down binOf clOfCode wrOfCode spanOf clFits allowed0 allowed fields0 fieldsOf orderOf
+unfolding table up down binOf headerWord fieldsRefusal headerRefusal parsedOf word48 clOfCode wrOfCode al spanOf clFits cwlFor allowed0 allowed1 allowed2 allowed fields0 fieldsOf orderOf recordFields byPins falling rising commandOf chipOf hOf bOf regs start seen orElse lowest asleep awakeTo awakeAt owedTo owedAt keep early
 examples-hold = (
   refl,
   (
@@ -32,7 +42,7 @@ examples-hold = (
                 refl,
                 (
                   refl,
-                  (refl, (refl, (refl, (refl, (refl, (refl, (refl, (refl, (refl, (refl, (refl, (refl, (refl, (refl, (refl, (refl, tt)))))))))))))))),
+                  (refl, (refl, (refl, (refl, (refl, (refl, (refl, (refl, (refl, (refl, (refl, (refl, (refl, (refl, (refl, (refl, (refl, (judged-early headerP1 bytesP8 529 _ refl refl, (judged-early headerP1 bytesP9 530 _ refl refl, (judged-early headerP1 bytesP10 539 _ refl refl, tt)))))))))))))))))))),
                 ),
               ),
             ),

@@ -3,13 +3,18 @@
 use Prim.Native.Nat.{ℕ}
 use mathlib.Core.Path.{_≡_}
 use mathlib.Core.Bool.{Bool, true}
-use mathlib.Core.List.{List, [], _∷_}
-use Rattle.units.specs.declared.Clocks.{Clocks}
+use mathlib.Core.List.{List, [], _∷_, reverse}
 use Rattle.header.specs.declared.Header.{Header}
+use Rattle.header.specs.declared.Parsed.the-variants.{Taken}
+use Rattle.header.specs.Bytes.{parsedOf}
 use Rattle.header.specs.Counts.{tRCD, tRP, tRC, tRAS, tRRD, tFAW, tRTP, tWR, tRFC, tMOD, tXS, tREFI}
 use Rattle.registers.specs.Allowed.{allowed}
 use Rattle.registers.specs.Reading.{fieldsOf}
 use Rattle.bursts.specs.Burst.{orderOf}
+use Rattle.records.specs.Record.{records}
+use Rattle.chip.specs.Chip.{chipOf}
+use Rattle.answers.specs.declared.Verdict.{Verdict}
+use Rattle.rules.specs.Verdict.{shownVerdict}
 
 -- the twelve counts that P1 and P2 list, in their order
 abbrev pub countsOf : Header → List ℕ
@@ -26,12 +31,18 @@ pub data Case : Type 0 where
   reads : (h : Header) (number code : ℕ) (fields : List ℕ) → Case
   -- whether a code is allowed
   permits : (h : Header) (number code : ℕ) (answer : Bool) → Case
+  -- the header of six bytes
+  opens : (bytes : List ℕ) (h : Header) → Case
+  -- the verdict on a recording: its header, the bytes of its records, its end edge
+  judged : (h : Header) (bytes : List ℕ) (end : ℕ) (verdict : Verdict) → Case
 
 abbrev pub Holds : Case → Type 0
 Holds (counts h clocks) = countsOf h ≡ clocks
 Holds (burst length start kind direction words) = orderOf length start kind direction ≡ words
 Holds (reads h number code fields) = (allowed h number code ≡ true) × (fieldsOf number code ≡ fields)
 Holds (permits h number code answer) = allowed h number code ≡ answer
+Holds (opens bytes h) = parsedOf bytes ≡ Taken h
+Holds (judged h bytes end verdict) = shownVerdict (chipOf h) (reverse (records bytes)) end ≡ verdict
 
 -- every case of a table holds
 abbrev pub AllHold : List Case → Type 0

@@ -1,10 +1,12 @@
--- 01, "Examples (P: proved)": P1 to P7.
+-- 01, "Examples (P: proved)": P1 to P10.
 -- Assumes nothing.
 use Prim.Native.Nat.{ℕ}
 use mathlib.Core.Bool.{true, false}
 use mathlib.Core.List.{List, [], _∷_}
 use Rattle.header.specs.declared.Header.{Header}
-use Rattle.cases.specs.Case.{Case, counts, burst, reads, permits}
+use Rattle.answers.specs.declared.Verdict.{Verdict}
+use Rattle.answers.specs.Answer.{bytes6}
+use Rattle.cases.specs.Case.{Case, counts, burst, reads, permits, opens, judged}
 
 -- "P1 bin 1, 1500, 1 Gb x8"
 abbrev pub headerP1 : Header
@@ -17,6 +19,30 @@ headerP2 = record { bin = 3; dense = true; wide = true; hot = false; period = re
 -- P7 names no bin: it is said of each
 abbrev pub headerP7 : (bin period : ℕ) → Header
 headerP7 bin period = record { bin = bin; dense = false; wide = false; hot = false; period = record { ps = period } }
+
+-- "P8 .. records 000001820010, 000004830000, 000004810000, 000004800B50, 00000C9B0123, 0001F4AB0000, 000004930000"
+abbrev pub firstSix : (last : List ℕ) → List ℕ
+firstSix last =
+    bytes6 0x000001820010 (bytes6 0x000004830000 (bytes6 0x000004810000 (bytes6 0x000004800B50 (bytes6 0x00000C9B0123 (bytes6 0x0001F4AB0000 last)))))
+
+abbrev pub bytesP8 : List ℕ
+bytesP8 = firstSix (bytes6 0x000004930000 [])
+
+-- "P9 last step 5"
+abbrev pub bytesP9 : List ℕ
+bytesP9 = firstSix (bytes6 0x000005930000 [])
+
+-- "P10 P9 then PRE after 4, ACT after 5 (both bank 3)"
+abbrev pub bytesP10 : List ℕ
+bytesP10 = firstSix (bytes6 0x000005930000 (bytes6 0x000004930000 (bytes6 0x0000059B0000 [])))
+
+-- "broken 10 7 6 529 5 4 (rule, record, partner, edge, needed, found)"
+abbrev pub broken : (rule number partner edge needed found : ℕ) → Verdict
+broken k n x e m f = record { outcome = 1; rule = k; number = n; partner = x; edge = e; needed = m; found = f }
+
+-- "clean 7 530 (records, end edge)"
+abbrev pub clean : (records edge : ℕ) → Verdict
+clean n e = record { outcome = 0; rule = 0; number = n; partner = 0; edge = e; needed = 0; found = 0 }
 
 unfoldable pub table : List Case
 table =
@@ -44,4 +70,11 @@ table =
     ∷ permits (headerP7 2 2499) 0 0x0820 false ∷ permits (headerP7 2 2499) 0 0x0830 true
     ∷ permits (headerP7 3 2500) 0 0x0820 true ∷ permits (headerP7 3 2500) 0 0x0830 false
     ∷ permits (headerP7 3 2499) 0 0x0820 false ∷ permits (headerP7 3 2499) 0 0x0830 true
+    -- "P8 header 14 05 DC 00 00 00; .. broken 10 7 6 529 5 4"
+    ∷ opens (bytes6 0x1405DC000000 []) headerP1
+    ∷ judged headerP1 bytesP8 529 (broken 10 7 6 529 5 4)
+    -- "P9 .. clean 7 530"
+    ∷ judged headerP1 bytesP9 530 (clean 7 530)
+    -- "P10 .. broken 5 9 8 539 9 5"
+    ∷ judged headerP1 bytesP10 539 (broken 5 9 8 539 9 5)
     ∷ []
