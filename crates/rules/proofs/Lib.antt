@@ -5,3 +5,6 @@ pub mod Starts
 pub mod Facts
 pub mod Fits
 pub mod Dominate
+pub mod Debts
+pub mod Summary
+pub mod Status
