@@ -8,3 +8,4 @@ pub mod Dominate
 pub mod Debts
 pub mod Summary
 pub mod Status
+pub mod Agree
