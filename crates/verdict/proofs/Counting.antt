@@ -1,0 +1,93 @@
+-- Opening counts no record; a section that is taken adds its records to the count, and keeps the limit.
+-- Assumes nothing.
+use Prim.Native.Nat.{ℕ, suc, _+_, _*_, _/_, _%_, _≤_, _<_}
+use native.Mathlib.Nat.{add-zero}
+use native.Mathlib.Omega.{arith}
+use mathlib.Core.Bool.{Bool, true, false, cond, _&&_, and-eq-true-iff}
+use mathlib.Core.List.{List, [], _∷_}
+use mathlib.Core.Path.{_≡_, refl, sym, ap, _∙_}
+use borrow.Author.Tests.{ltb-false, eqb-true}
+use lib.Dec.{eqb, ltb}
+use lib.ListN.{length}
+use Rattle.answers.specs.declared.Verdict.{Verdict}
+use Rattle.chip.specs.declared.Chip.{Chip}
+use Rattle.chip.specs.Chip.{chipOf}
+use Rattle.records.specs.declared.Record.{Record}
+use Rattle.records.specs.Record.{records}
+use Rattle.judge.specs.declared.Shared.{Shared}
+use Rattle.judge.specs.declared.State.{State}
+use Rattle.judge.specs.declared.Taken.{Taken}
+use Rattle.header.specs.declared.Parsed.{Parsed}
+use Rattle.header.specs.declared.Parsed.the-variants.{Taken as TakenHeader, Refused}
+use Rattle.header.specs.Bytes.{parsedOf}
+use Rattle.judge.specs.Calls.{freshState, openedBy, openOf, hasZero, refuse, take, sectionOf}
+use Rattle.judge.specs.Ranges.{limit, inRange}
+use Rattle.judge.specs.Step.{isClean, turnIn, movedOf, stoppedOf, stepOf, foldOf}
+use Rattle.verdict.specs.Reading.{Full}
+
+module _ (C : Chip) where
+  by-cases : (s : State) (r : Record) (t : Shared) (v w : Verdict) (x y : Bool)
+      → cond x (cond y (movedOf C s r t) (stoppedOf s r v)) (stoppedOf s r w) .count ≡ s .count + 1
+  unfolding movedOf stoppedOf
+  by-cases s r t v w true true = refl
+  by-cases s r t v w true false = refl
+  by-cases s r t v w false y = refl
+
+  one-more : (s : State) (r : Record) → stepOf C s r .count ≡ s .count + 1
+  unfolding stepOf
+  one-more s r = by-cases s r _ _ _ (isClean (s .first)) (isClean (turnIn C s r .verdict))
+
+  all-more : (s : State) (rs : List Record) → foldOf C s rs .count ≡ s .count + length rs
+  all-more s [] = sym (add-zero (s .count))
+  all-more s (r ∷ rs) = omega (arith, all-more (stepOf C s r) rs, one-more s r)
+
+-- six bytes a record
+sixes : (bs : List ℕ) → (6 * length (records bs) ≤ length bs) × (length bs < 6 * length (records bs) + 6)
+sixes [] = (omega arith, omega arith)
+sixes (_ ∷ []) = (omega arith, omega arith)
+sixes (_ ∷ _ ∷ []) = (omega arith, omega arith)
+sixes (_ ∷ _ ∷ _ ∷ []) = (omega arith, omega arith)
+sixes (_ ∷ _ ∷ _ ∷ _ ∷ []) = (omega arith, omega arith)
+sixes (_ ∷ _ ∷ _ ∷ _ ∷ _ ∷ []) = (omega arith, omega arith)
+sixes (_ ∷ _ ∷ _ ∷ _ ∷ _ ∷ _ ∷ bs) = let w = sixes bs in (omega (arith, w .0), omega (arith, w .1))
+
+module _ (s : State) (bs : List ℕ) (full : length bs ≡ 6000) where
+  abbrev folded : State
+  folded = foldOf (chipOf (s .header)) s (records bs)
+
+  counted : folded .count ≡ s .count + 1000
+  counted = omega (arith, all-more (chipOf (s .header)) s (records bs), sixes bs .0, sixes bs .1)
+
+  picked : (a b c d : Bool) → ltb limit (s .count + length bs / 6) ≡ c
+      → (cond a (cond b (cond c (refuse 7 s) (cond d (refuse 6 s) (take folded))) (refuse 5 s)) (refuse 17 s)) .refused ≡ 0
+      → Full s (cond a (cond b (cond c (refuse 7 s) (cond d (refuse 6 s) (take folded))) (refuse 5 s)) (refuse 17 s) .state)
+  picked true true false false t z =
+      let room : s .count + length bs / 6 ≤ limit = ltb-false limit (s .count + length bs / 6) t in
+      record { more = counted; within = omega (arith, counted) }
+  picked true true false true t z = absurd (omega arith)
+  picked true true true d t z = absurd (omega arith)
+  picked true false c d t z = absurd (omega arith)
+  picked false b c d t z = absurd (omega arith)
+
+  pub taken-full : sectionOf s bs .refused ≡ 0 → Full s (sectionOf s bs .state)
+  unfolding sectionOf
+  taken-full z = picked (inRange s) (eqb (length bs % 6) 0) (ltb limit (s .count + length bs / 6)) (hasZero (records bs)) refl z
+
+-- a section was taken, and it was full
+pub read-full : (s : State) (bs : List ℕ) (t : Taken) (n : ℕ) → t ≡ sectionOf s bs → n ≡ length bs
+    → eqb (t .refused) 0 && eqb n 6000 ≡ true → Full s (t .state)
+read-full s bs t n is size h =
+    let both = and-eq-true-iff (eqb (t .refused) 0) (eqb n 6000) .0 h in
+    let full : length bs ≡ 6000 = sym size ∙ eqb-true n 6000 (both .1) in
+    let taken : sectionOf s bs .refused ≡ 0 = sym (ap (λ (x : Taken). x .refused) is) ∙ eqb-true (t .refused) 0 (both .0) in
+    rw is (taken-full s bs full taken)
+
+-- opening counts no record
+by-header : (p : Parsed) → openedBy p .state .count ≡ 0
+unfolding freshState
+by-header (TakenHeader h) = refl
+by-header (Refused n) = refl
+
+pub none-yet : (bs : List ℕ) → openOf bs .state .count ≡ 0
+unfolding openOf
+none-yet bs = by-header (parsedOf bs)

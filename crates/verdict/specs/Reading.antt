@@ -1,0 +1,11 @@
+-- What the loop over the sections goes by.
+-- Assumes nothing.
+use Prim.Native.Nat.{ℕ, _+_, _≤_}
+use mathlib.Core.Path.{_≡_}
+use Rattle.judge.specs.declared.State.{State}
+use Rattle.judge.specs.Ranges.{limit}
+
+-- a full section was taken: 1,000 records more, within the limit
+pub record Full (before after : State) : Type 0 where
+  pub more : after .count ≡ before .count + 1000
+  pub within : after .count ≤ limit
