@@ -9,3 +9,4 @@ pub mod Debts
 pub mod Summary
 pub mod Status
 pub mod Agree
+pub mod Sense
