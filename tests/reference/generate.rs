@@ -1,0 +1,198 @@
+//! The recordings: aimed at a rule or clean, damaged, malformed, noise.
+
+use crate::controller::{Controller, Temper};
+use crate::damage::{damage, fill_to_the_limit, make_fault, Case};
+use crate::header::Header;
+use crate::random::Random;
+use crate::recording::GREATEST_END;
+use crate::settings::{header_bytes, header_for_rule, random_header};
+use crate::slips::slip;
+
+/// ACT, RD, WR, PRE, REF, MRS, ZQ, SRE, NOP.
+const MIXED: [u64; 9] = [20, 20, 15, 12, 4, 3, 1, 1, 6];
+const ROWS: [u64; 9] = [40, 5, 5, 30, 2, 1, 0, 0, 2];
+const COLUMNS: [u64; 9] = [15, 40, 35, 8, 1, 1, 0, 0, 2];
+const UPKEEP: [u64; 9] = [6, 4, 4, 6, 20, 15, 8, 8, 6];
+const READ_THEN_SET: [u64; 9] = [15, 25, 2, 10, 1, 25, 0, 15, 1];
+const CLOSING: [u64; 9] = [30, 22, 22, 6, 3, 4, 2, 2, 2];
+const SLEEPER: [u64; 9] = [5, 6, 3, 4, 12, 3, 2, 25, 5];
+
+/// One recording in this many is over the limit or just at it: its line has twelve million digits.
+const OVER_THE_LIMIT_EVERY: u64 = 500;
+const LONG_EVERY: u64 = 1000;
+
+/// Refusals that hold beside 7; 0 is 7 alone, 9 the limit just kept.
+const BESIDE_THE_LIMIT: [u32; 12] = [0, 6, 8, 0, 5, 6, 8, 2, 0, 3, 4, 9];
+
+/// The case of this seed and index; `small` leaves out the recordings at and over the limit.
+pub fn case(seed: u64, index: u64, small: bool) -> Case {
+    let base = Random::new(seed).next();
+    let mixed = Random::new(base ^ index.wrapping_mul(0xD134_2543_DE82_EF95)).next();
+    let mut random = Random::new(mixed);
+    if index % OVER_THE_LIMIT_EVERY == OVER_THE_LIMIT_EVERY - 1 && !small {
+        return around_the_limit(&mut random, index / OVER_THE_LIMIT_EVERY);
+    }
+    if index % LONG_EVERY == LONG_EVERY / 2 {
+        let length = random.between(1010, 1300) as usize;
+        let rule = random.pick(&[0, 0, 4, 10, 14, 24]);
+        return aimed(&mut random, rule, length, length - 5);
+    }
+    match random.weighted(&[70, 14, 11, 5]) {
+        0 => any_aimed(&mut random),
+        1 => damaged(&mut random),
+        2 => malformed(&mut random),
+        _ => noise(&mut random),
+    }
+}
+
+fn any_aimed(random: &mut Random) -> Case {
+    let mut weights = [2; 26];
+    weights[0] = 16;
+    for rarely_reached in [4, 8, 10, 20] {
+        weights[rarely_reached] = 4;
+    }
+    weights[19] = 8;
+    let rule = random.weighted(&weights) as u8;
+    let (least, greatest) = random.pick(&[(20, 50), (20, 50), (20, 50), (20, 50), (30, 100), (20, 200)]);
+    let length = random.between(least, greatest);
+    let slip_after = if rule == 3 { random.between(0, 30) } else { random.between(3, length) };
+    aimed(random, rule, length as usize, slip_after as usize)
+}
+
+fn temper_for(random: &mut Random, rule: u8) -> Temper {
+    let weights = match rule {
+        2 | 5 => random.pick(&[CLOSING, ROWS, MIXED]),
+        4..=9 => random.pick(&[ROWS, ROWS, MIXED]),
+        10..=14 => COLUMNS,
+        15..=18 => UPKEEP,
+        19 => READ_THEN_SET,
+        20 => random.pick(&[COLUMNS, SLEEPER, READ_THEN_SET]),
+        21..=23 => SLEEPER,
+        _ => random.pick(&[MIXED, CLOSING, ROWS, COLUMNS, UPKEEP, READ_THEN_SET, READ_THEN_SET, SLEEPER]),
+    };
+    let postponed = random.between(1, 8);
+    Temper {
+        weights,
+        banks: match rule {
+            6 => random.pick(&[1, 1, 2]),
+            8 => 8,
+            _ => random.pick(&[1, 2, 4, 8, 8, 8]),
+        },
+        eager: if rule == 6 || rule == 8 { 97 } else { random.pick(&[30, 60, 80, 95]) },
+        auto: if weights == CLOSING { 80 } else { random.pick(&[0, 10, 30, 60]) },
+        debts: match rule {
+            24 => (0, random.between(-8, -1)),
+            _ => (postponed, random.between(-8, postponed - 1)),
+        },
+        dll_reset: rule != 3 || random.chance(50),
+    }
+}
+
+/// A clean recording (rule 0), or one in which some record breaks the rule and a few more follow.
+fn aimed(random: &mut Random, rule: u8, length: usize, slip_after: usize) -> Case {
+    let header = header_for_rule(random, rule);
+    let temper = temper_for(random, rule);
+    let mut controller = Controller::new(header, temper, Random::new(random.next()));
+    let mut left = length + 40 * (rule != 0) as usize;
+    let mut slipped = rule == 0;
+    while left > 0 {
+        left -= 1;
+        if !slipped && controller.past.len() >= slip_after {
+            slipped = slip(&mut controller, rule);
+            if slipped {
+                left = random.below(8) as usize;
+            }
+        } else {
+            let record = controller.choose();
+            let edge = controller.comfortable_edge(&record);
+            controller.issue(record, edge);
+        }
+    }
+    let end = end_for(random, &controller);
+    Case { recording: [&header_bytes(&header)[..], &controller.section].concat(), end }
+}
+
+/// The last record's edge, later, at the next deadline, much later, too early, 2^44, above it.
+fn end_for(random: &mut Random, controller: &Controller) -> u64 {
+    let last = controller.now();
+    let deadline = controller.deadline().map_or(last, |(edge, _)| edge);
+    let interval = controller.header.t_refi();
+    let end = match random.weighted(&[60, 6, 6, 12, 8, 4, 2, 2]) {
+        0 => last,
+        1 => last + random.between(1, 100),
+        2 => (controller.rising(last) - random.between(0, 1)).max(last),
+        3 => deadline + random.between(-1, 1),
+        4 => last + random.between(1, 20 * interval),
+        5 => GREATEST_END as i64 - random.pick(&[0, 0, 1, 12345]),
+        6 => last - random.pick(&[1, 1, 10]),
+        _ => GREATEST_END as i64 + random.pick(&[1, 2, 1 << 40]),
+    };
+    end.max(0) as u64
+}
+
+fn damaged(random: &mut Random) -> Case {
+    let mut case = any_aimed(random);
+    for _ in 0..random.pick(&[1, 1, 1, 2, 4]) {
+        damage(random, &mut case);
+    }
+    if random.chance(85) {
+        case.end = case.last_edge();
+    }
+    case
+}
+
+/// One to three refusals hold at once. With fewer than six bytes only 8 can hold beside 1.
+fn malformed(random: &mut Random) -> Case {
+    let rule = random.pick(&[0, 0, 1, 24, 25]);
+    let length = random.below(30) as usize;
+    let mut case = aimed(random, rule, length, 4);
+    let mut faults = match random.below(8) {
+        0 => vec![1],
+        1 => vec![1, 8],
+        2 | 3 => vec![random.pick(&[2, 3, 4, 5, 6, 8])],
+        _ => (0..random.between(2, 3)).map(|_| random.pick(&[2, 3, 4, 5, 6, 8])).collect(),
+    };
+    faults.sort();
+    case.end = case.last_edge();
+    for fault in faults {
+        make_fault(random, &mut case, fault);
+    }
+    case
+}
+
+fn around_the_limit(random: &mut Random, turn: u64) -> Case {
+    let mut case = aimed(random, 0, 20, 0);
+    let beside = BESIDE_THE_LIMIT[turn as usize % BESIDE_THE_LIMIT.len()];
+    if beside == 9 {
+        fill_to_the_limit(&mut case.recording);
+        case.end = case.last_edge();
+        return case;
+    }
+    make_fault(random, &mut case, 7);
+    case.end = case.last_edge();
+    make_fault(random, &mut case, beside);
+    case
+}
+
+/// Random bytes; random records after a good header; random records after a good start.
+fn noise(random: &mut Random) -> Case {
+    let kind = random.below(3);
+    let mut recording: Vec<u8> = match kind {
+        0 => (0..random.below(80)).map(|_| random.next() as u8).collect(),
+        1 => {
+            let header: Header = random_header(random);
+            header_bytes(&header).to_vec()
+        }
+        _ => aimed(random, 0, 12, 0).recording,
+    };
+    if kind > 0 {
+        for _ in 0..random.below(40) {
+            let step = 1 + random.below(100) as u8;
+            let pins = random.next() as u8 | random.pick(&[0x80, 0x80, 0x80, 0]);
+            recording.extend([0, 0, step, pins, random.next() as u8, random.next() as u8]);
+        }
+    }
+    let mut case = Case { recording, end: 0 };
+    case.end = case.last_edge() + random.pick(&[0, 0, 0, 1, 500]);
+    case
+}

@@ -1,0 +1,126 @@
+//! An independent reference for the judge of DDR3 command recordings, written from the rules paper alone.
+//!
+//! reference vectors DIR              checks the vector files; 1 on a difference
+//! reference judge                    lines "hex end [lent]" to answers
+//! reference program                  lines "hex" to the program's line
+//! reference register                 lines "header number code [lent]" (hex, decimal, hex) to answers
+//! reference burst                    lines "length start type direction [lent]" to answers
+//! reference generate SEED COUNT [small]
+//! reference count SEED COUNT [small]
+//!
+//! An empty recording or header is written "-", the last record's edge as an end "-".
+
+mod banks;
+mod bursts;
+mod controller;
+mod count;
+mod damage;
+mod deadlines;
+mod generate;
+mod header;
+mod proposals;
+mod random;
+mod recording;
+mod registers;
+mod rules;
+mod settings;
+mod slips;
+mod text;
+mod vectors;
+mod verdict;
+
+use std::io::{stdin, stdout, BufRead, BufWriter, Write};
+use std::process::ExitCode;
+
+fn main() -> ExitCode {
+    let arguments: Vec<String> = std::env::args().skip(1).collect();
+    let words: Vec<&str> = arguments.iter().map(String::as_str).collect();
+    let done = match words[..] {
+        ["vectors", directory] => vectors::check_vectors(directory),
+        ["judge"] => answer_lines(judge_line),
+        ["program"] => answer_lines(program_answer),
+        ["register"] => answer_lines(register_line),
+        ["burst"] => answer_lines(burst_line),
+        ["generate", seed, count] => generate(seed, count, false),
+        ["generate", seed, count, "small"] => generate(seed, count, true),
+        ["count", seed, count] => count::count(seed, count, false),
+        ["count", seed, count, "small"] => count::count(seed, count, true),
+        _ => Err("reference vectors DIR | judge | program | register | burst | generate SEED COUNT | count SEED COUNT".into()),
+    };
+    match done {
+        Ok(true) => ExitCode::SUCCESS,
+        Ok(false) => ExitCode::from(1),
+        Err(message) => {
+            eprintln!("{message}");
+            ExitCode::from(2)
+        }
+    }
+}
+
+/// One line of answer for each line of question, flushed so that the other end can wait for it.
+fn answer_lines(answer: fn(&[&str]) -> Result<String, String>) -> Result<bool, String> {
+    let mut out = stdout().lock();
+    for line in stdin().lock().lines() {
+        let line = line.map_err(|e| e.to_string())?;
+        let words: Vec<&str> = line.split_whitespace().collect();
+        writeln!(out, "{}", answer(&words)?).map_err(|e| e.to_string())?;
+    }
+    Ok(true)
+}
+
+fn number<T: std::str::FromStr>(text: &str) -> Result<T, String> {
+    text.parse().map_err(|_| format!("not a number here: {text}"))
+}
+
+fn judge_line(words: &[&str]) -> Result<String, String> {
+    let (recording, end, lent) = match *words {
+        [recording, end] => (recording, end, 20),
+        [recording, end, lent] => (recording, end, number(lent)?),
+        _ => return Err("not a line: hex end [lent]".into()),
+    };
+    let answer = verdict::judge(&text::bytes_of_hex(recording)?, text::end_of_text(end)?, lent);
+    Ok(text::answer_text(&answer))
+}
+
+fn program_answer(words: &[&str]) -> Result<String, String> {
+    match *words {
+        [recording, ..] => Ok(verdict::program_line(&text::bytes_of_hex(recording)?)),
+        [] => Err("not a line: hex".into()),
+    }
+}
+
+fn bytes_or_refusal(answer: Result<Vec<u8>, u32>) -> String {
+    answer.map_or_else(|refusal| format!("refused {refusal}"), |bytes| text::hex(&bytes))
+}
+
+fn register_line(words: &[&str]) -> Result<String, String> {
+    let (header, register, code, lent) = match *words {
+        [header, register, code] => (header, register, code, 6),
+        [header, register, code, lent] => (header, register, code, number(lent)?),
+        _ => return Err("not a line: header number code [lent]".into()),
+    };
+    let code = u16::from_str_radix(code, 16).map_err(|_| format!("not a code: {code}"))?;
+    let header = text::bytes_of_hex(header)?;
+    let answer = registers::register_reading(&header, number(register)?, code, lent);
+    Ok(bytes_or_refusal(answer.map(|six| six.to_vec())))
+}
+
+fn burst_line(words: &[&str]) -> Result<String, String> {
+    let numbers = words.iter().map(|word| number(word)).collect::<Result<Vec<u32>, String>>()?;
+    let (length, start, kind, direction, lent) = match numbers[..] {
+        [length, start, kind, direction] => (length, start, kind, direction, 8),
+        [length, start, kind, direction, lent] => (length, start, kind, direction, lent as usize),
+        _ => return Err("not a line: length start type direction [lent]".into()),
+    };
+    Ok(bytes_or_refusal(bursts::burst_order(length, start, kind, direction, lent)))
+}
+
+fn generate(seed: &str, count: &str, small: bool) -> Result<bool, String> {
+    let mut out = BufWriter::new(stdout().lock());
+    for index in 0..number(count)? {
+        let case = generate::case(number(seed)?, index, small);
+        writeln!(out, "{} {}", text::hex(&case.recording), case.end).map_err(|e| e.to_string())?;
+    }
+    out.flush().map_err(|e| e.to_string())?;
+    Ok(true)
+}

@@ -1,0 +1,112 @@
+//! Random headers, with every border of the period, and random register codes.
+
+use crate::header::{least_period, read_header, Header, GREATEST_PERIOD};
+use crate::random::Random;
+use crate::registers::allowed;
+
+/// Where a table of the paper changes.
+const PERIOD_BORDERS: [i64; 8] = [1070, 1250, 1500, 1641, 1875, 2500, 3000, 3300];
+
+/// Times whose clock counts change where the period divides them.
+const TIMES: [i64; 30] = [
+    13125, 12840, 50625, 49500, 48750, 47080, 37500, 36000, 35000, 34240, 7500, 10000, 6000, 5000, 50000, 45000, 40000,
+    30000, 27000, 15000, 5625, 110_000, 160_000, 120_000, 170_000, 320_000, 80_000, 70_000_000, 7_800_000, 3_900_000,
+];
+
+/// A period at which the clock count of some time changes, or one more.
+fn period_at_a_change(random: &mut Random, bin: usize) -> i64 {
+    let time = random.pick(&TIMES);
+    let (fewest, most) = (time / GREATEST_PERIOD + 1, time / least_period(bin));
+    time / random.between(fewest, most.max(fewest)) + random.between(0, 1)
+}
+
+fn random_period(random: &mut Random, bin: usize) -> i64 {
+    let wanted = match random.below(4) {
+        0 => random.pick(&PERIOD_BORDERS) - random.between(0, 1),
+        1 => least_period(bin) + random.between(0, 1),
+        2 => period_at_a_change(random, bin),
+        _ => random.between(least_period(bin), GREATEST_PERIOD),
+    };
+    if (least_period(bin)..=GREATEST_PERIOD).contains(&wanted) {
+        wanted
+    } else {
+        random.between(least_period(bin), GREATEST_PERIOD)
+    }
+}
+
+pub fn header_bytes(header: &Header) -> [u8; 6] {
+    let first = 1 << 4 | (header.bin as u8) << 2 | header.density << 1 | header.width;
+    let second = (header.hot as u8) << 7 | (header.period >> 8) as u8;
+    [first, second, header.period as u8, 0, 0, 0]
+}
+
+pub fn random_header(random: &mut Random) -> Header {
+    let bin = random.below(4) as usize;
+    let header = Header {
+        bin,
+        density: random.below(2) as u8,
+        width: random.below(2) as u8,
+        hot: random.chance(40),
+        period: random_period(random, bin),
+    };
+    debug_assert!(read_header(&header_bytes(&header)).is_ok());
+    header
+}
+
+/// A header at which the rule can be the verdict.
+pub fn header_for_rule(random: &mut Random, rule: u8) -> Header {
+    if rule == 3 && random.chance(30) {
+        return header_of_forbidden_cl_5(random);
+    }
+    loop {
+        let header = random_header(random);
+        let possible = match rule {
+            6 => header.t_rc() > header.t_ras() + header.t_rp(),
+            8 => header.t_faw() > 4 * header.t_rrd(),
+            19 => greatest_cl(&header) + 4 > header.t_rtp() + header.t_rp(),
+            24 => !header.hot,
+            _ => true,
+        };
+        if possible {
+            return header;
+        }
+    }
+}
+
+/// CL 5 is the one latency that a bin alone forbids.
+fn header_of_forbidden_cl_5(random: &mut Random) -> Header {
+    let header = random_header(random);
+    Header { bin: 3, period: random.between(3000, GREATEST_PERIOD), ..header }
+}
+
+fn greatest_cl(header: &Header) -> i64 {
+    match header.period {
+        2500.. => 6,
+        1875.. => 8,
+        1500.. => 10,
+        1250.. => 11,
+        _ => 12,
+    }
+}
+
+/// The bits that some allowed code of the register sets.
+const FREE_BITS: [u16; 4] = [0x1F7F, 0x1A5E, 0x06FF, 0x0000];
+const DLL_RESET: u16 = 1 << 8;
+
+pub fn allowed_code(random: &mut Random, header: &Header, number: u8) -> u16 {
+    loop {
+        let code = random.next() as u16 & FREE_BITS[number as usize];
+        if allowed(header, number as u32, code) {
+            return code;
+        }
+    }
+}
+
+pub fn mr0_code(random: &mut Random, header: &Header, dll_reset: bool) -> u16 {
+    let code = allowed_code(random, header, 0);
+    if dll_reset {
+        code | DLL_RESET
+    } else {
+        code & !DLL_RESET
+    }
+}

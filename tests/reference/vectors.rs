@@ -1,0 +1,180 @@
+//! Checks the vector files and the paper's examples, every field of every line.
+
+use crate::bursts::burst_order;
+use crate::header::read_header;
+use crate::registers::{allowed, register_reading};
+use crate::text::{answer_text, banks_text, bytes_of_hex, end_of_text, registers_text};
+use crate::verdict::{judge, program_line, verdict_line};
+use std::fs::read_to_string;
+
+#[derive(Default)]
+struct Tally {
+    agreed: usize,
+    differed: usize,
+}
+
+impl Tally {
+    fn compare(&mut self, place: &str, expected: &str, got: &str) {
+        if expected == got {
+            self.agreed += 1;
+        } else {
+            self.differed += 1;
+            println!("{place}\n  expected {expected}\n  got      {got}");
+        }
+    }
+}
+
+/// True when all agree.
+pub fn check_vectors(directory: &str) -> Result<bool, String> {
+    let read = |name: &str| read_to_string(format!("{directory}/{name}")).map_err(|e| format!("{name}: {e}"));
+    let checks = [
+        ("program.txt", program_file(&read("program.txt")?)?),
+        ("long.txt", program_file(&read("long.txt")?)?),
+        ("whole.txt", whole_file(&read("whole.txt")?)?),
+        ("readings.txt", readings_file(&read("readings.txt")?)?),
+        ("examples of the paper", paper_examples()),
+    ];
+    for (name, tally) in &checks {
+        println!("{name}: {} agree, {} differ", tally.agreed, tally.differed);
+    }
+    Ok(checks.iter().all(|(_, tally)| tally.differed == 0 && tally.agreed > 0))
+}
+
+/// Hex of a recording, tab, the program's line.
+fn program_file(text: &str) -> Result<Tally, String> {
+    let mut tally = Tally::default();
+    for (line, number) in text.lines().zip(1..) {
+        let (recording, expected) = line.split_once('\t').ok_or(format!("line {number}: no tab"))?;
+        tally.compare(&format!("line {number}"), expected, &program_line(&bytes_of_hex(recording)?));
+    }
+    Ok(tally)
+}
+
+/// Hex, end, line, and where not refused 20 verdict bytes, banks, registers, debt.
+fn whole_file(text: &str) -> Result<Tally, String> {
+    let mut tally = Tally::default();
+    for (line, number) in text.lines().zip(1..) {
+        let mut fields = line.splitn(3, '\t');
+        let mut next = || fields.next().ok_or(format!("line {number}: too few fields"));
+        let (recording, end, expected) = (bytes_of_hex(next()?)?, end_of_text(next()?)?, next()?);
+        let answer = judge(&recording, end, 20);
+        let got = match &answer {
+            Err(_) => answer_text(&answer),
+            Ok(closing) => format!("{}\t{}", verdict_line(&closing.verdict), answer_text(&answer)),
+        };
+        tally.compare(&format!("line {number}"), expected, &got);
+    }
+    Ok(tally)
+}
+
+/// Three lines each: a title, "hex end edge", "line | banks | registers | debt".
+fn readings_file(text: &str) -> Result<Tally, String> {
+    let mut tally = Tally::default();
+    let lines: Vec<&str> = text.lines().map(str::trim).collect();
+    for three in lines.chunks(3) {
+        let [title, question, expected] = three else { return Err("readings: not three lines".to_string()) };
+        let (recording, end) = question.split_once(" end ").ok_or(format!("{title}: no end"))?;
+        let answer = judge(&bytes_of_hex(recording)?, end_of_text(end)?, 20);
+        let got = match &answer {
+            Err(_) => answer_text(&answer),
+            Ok(closing) => format!(
+                "{} | {} | {} | {}",
+                verdict_line(&closing.verdict),
+                banks_text(&closing.banks),
+                registers_text(&closing.registers),
+                closing.debt
+            ),
+        };
+        tally.compare(title, expected, &got);
+    }
+    Ok(tally)
+}
+
+const P1_HEADER: [u8; 6] = [0x14, 0x05, 0xDC, 0, 0, 0];
+const P2_HEADER: [u8; 6] = [0x1F, 0x04, 0x2E, 0, 0, 0];
+const P8_HEX: &str = "1405DC000000000001820010000004830000000004810000000004800B5000000C9B01230001F4AB0000000004930000";
+
+fn paper_examples() -> Tally {
+    let mut tally = Tally::default();
+    clock_counts(&mut tally);
+    orders_and_codes(&mut tally);
+    recordings(&mut tally);
+    tally
+}
+
+fn clock_counts(tally: &mut Tally) {
+    let p1 = read_header(&P1_HEADER).unwrap();
+    let p1_counts = [
+        p1.t_rcd(),
+        p1.t_rp(),
+        p1.t_rc(),
+        p1.t_ras(),
+        p1.t_rrd(),
+        p1.t_faw(),
+        p1.t_rtp(),
+        p1.t_wr(),
+        p1.t_rfc(),
+        p1.t_mod(),
+        p1.t_xs(),
+        p1.t_refi(),
+    ];
+    tally.compare("P1", "[9, 9, 33, 24, 4, 20, 5, 10, 74, 12, 80, 5200]", &format!("{p1_counts:?}"));
+    let p2 = read_header(&P2_HEADER).unwrap();
+    let p2_counts = [
+        p2.t_rcd(),
+        p2.t_rp(),
+        p2.t_rc(),
+        p2.t_ras(),
+        p2.t_rrd(),
+        p2.t_faw(),
+        p2.t_rtp(),
+        p2.t_wr(),
+        p2.t_rfc(),
+        p2.t_mod(),
+        p2.t_xs(),
+        p2.t_refi(),
+    ];
+    tally.compare("P2", "[12, 12, 44, 32, 6, 33, 8, 15, 150, 15, 159, 7289]", &format!("{p2_counts:?}"));
+}
+
+fn orders_and_codes(tally: &mut Tally) {
+    let order = |length, start, kind, direction| format!("{:?}", burst_order(length, start, kind, direction, 8));
+    tally.compare("P3", "Ok([5, 6, 7, 4, 1, 2, 3, 0])", &order(8, 5, 0, 0));
+    tally.compare("P3", "Ok([5, 4, 7, 6, 1, 0, 3, 2])", &order(8, 5, 1, 0));
+    tally.compare("P4", "Ok([6, 7, 4, 5])", &order(4, 6, 0, 0));
+    tally.compare("P4", "Ok([4, 5, 6, 7])", &order(4, 6, 0, 1));
+    tally.compare("order 10 before 9", "Err(10)", &format!("{:?}", burst_order(5, 0, 0, 0, 0)));
+    tally.compare("order 9", "Err(9)", &format!("{:?}", burst_order(8, 7, 0, 0, 7)));
+    let reading = |header: &[u8], number, code| format!("{:?}", register_reading(header, number, code, 6));
+    tally.compare("P5", "Ok([0, 0, 9, 1, 10, 0])", &reading(&P1_HEADER, 0, 0x0B50));
+    tally.compare("P6", "Err(11)", &reading(&P2_HEADER, 0, 0x0E04));
+    tally.compare("P6", "Ok([0, 0, 12, 0, 16, 0])", &reading(&P2_HEADER, 0, 0x0004));
+    tally.compare("a header of seven bytes", "Err(1)", &reading(&[0; 7], 4, 0));
+    for (period, cl_6, cl_7) in [(2500u16, "true", "false"), (2499, "false", "true")] {
+        let [high, low] = period.to_be_bytes();
+        let header = read_header(&[0x14, high, low, 0, 0, 0]).unwrap();
+        tally.compare("P7, CL 6", cl_6, &allowed(&header, 0, 0x0E20).to_string());
+        tally.compare("P7, CL 7", cl_7, &allowed(&header, 0, 0x0E30).to_string());
+    }
+}
+
+fn recordings(tally: &mut Tally) {
+    let p8 = bytes_of_hex(P8_HEX).unwrap();
+    let p9 = [&p8[..p8.len() - 6], &[0, 0, 5, 0x93, 0, 0]].concat();
+    let p10 = [&p9[..], &[0, 0, 4, 0x93, 0, 0, 0, 0, 5, 0x9B, 0, 0]].concat();
+    tally.compare("P8", "broken 10 7 6 529 5 4", &program_line(&p8));
+    tally.compare("P9", "clean 7 530", &program_line(&p9));
+    tally.compare("P10", "broken 5 9 8 539 9 5", &program_line(&p10));
+    let mut closed = |place: &str, recording: &[u8], end: u64, expected: &str| {
+        let line = judge(recording, Some(end), 20).map(|closing| verdict_line(&closing.verdict));
+        tally.compare(place, expected, &line.unwrap_or_else(|refusal| format!("refused {refusal}")));
+    };
+    closed("P11", &P1_HEADER, 46799, "clean 0 46799");
+    closed("P11", &P1_HEADER, 46800, "broken 25 0 0 46800 8 9");
+    closed("P12", &p8[..36], 46691, "clean 5 46691");
+    closed("P12", &p8[..36], 46692, "broken 24 0 5 46692 46666 46667");
+    closed("the greatest end", &P1_HEADER, 1 << 44, "broken 25 0 0 46800 8 9");
+    closed("above the greatest end", &P1_HEADER, (1 << 44) + 1, "refused 8");
+    let short = judge(&[], None, 19).err();
+    tally.compare("9 before 1", "Some(9)", &format!("{short:?}"));
+}

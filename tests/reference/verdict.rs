@@ -1,0 +1,130 @@
+//! Judging a whole recording: the verdict, and the picture at its end.
+
+use crate::banks::{bank_at, Bank};
+use crate::deadlines::{broken_by_deadline, debt_at, edges_to_examine};
+use crate::header::Header;
+use crate::recording::{
+    last_edge, read_recording, read_records, registers_after, section_refusal, Event, GREATEST_END,
+};
+use crate::registers::Registers;
+use crate::rules::{broken_by_record, Break};
+
+#[derive(Clone, Copy, Debug, PartialEq)]
+pub enum Verdict {
+    Clean { records: usize, end: i64 },
+    Broken(Break),
+}
+
+/// What closing returns: verdict, bank states, registers and debt.
+pub struct Closing {
+    pub verdict: Verdict,
+    pub banks: Vec<Bank>,
+    pub registers: Registers,
+    pub debt: i64,
+}
+
+/// What is broken at this edge, the lowest rule first; the past holds the records up to it.
+pub fn broken_at(header: &Header, past: &[Event], edge: i64) -> Option<Break> {
+    let by_record = if last_edge(past) == edge { broken_by_record(header, past) } else { None };
+    by_record.or_else(|| broken_by_deadline(header, past, edge))
+}
+
+/// The first break after the last record and up to the given edge.
+fn broken_in_gap(header: &Header, past: &[Event], until: i64) -> Option<Break> {
+    let edges = edges_to_examine(header, past, last_edge(past), until);
+    edges.into_iter().find_map(|edge| broken_at(header, past, edge))
+}
+
+/// The first break up to the end, and the records up to it (all of them when there is none).
+fn first_break(header: &Header, section: &[u8], end: i64) -> (Option<Break>, Vec<Event>) {
+    let mut past = Vec::new();
+    for record in read_records(section) {
+        let event = Event::after(&past, &record);
+        let in_gap = broken_in_gap(header, &past, event.edge - 1);
+        if in_gap.is_some() {
+            return (in_gap, past);
+        }
+        past.push(event);
+        let at_record = broken_at(header, &past, event.edge);
+        if at_record.is_some() {
+            return (at_record, past);
+        }
+    }
+    (broken_in_gap(header, &past, end), past)
+}
+
+/// Once broken, banks, registers and debt stay as they were just before the broken edge.
+fn close(header: &Header, section: &[u8], end: i64) -> Closing {
+    let (broken, mut past) = first_break(header, section, end);
+    let edge = broken.map_or(end, |broken| broken.edge - 1);
+    past.retain(|event| event.edge <= edge);
+    Closing {
+        verdict: broken.map_or(Verdict::Clean { records: section.len() / 6, end }, Verdict::Broken),
+        banks: (0..8).map(|bank| bank_at(header, &past, bank, edge)).collect(),
+        registers: registers_after(&past),
+        debt: debt_at(header, &past, edge),
+    }
+}
+
+fn last_edge_of(section: &[u8]) -> i64 {
+    read_records(section).map(|record| record.step).sum()
+}
+
+/// Judging a whole recording: refusals 9, 1, 2, 3, 4, 5, 7, 6, 8 in this order.
+/// With no end given, the end is the last record's edge.
+pub fn judge(recording: &[u8], end: Option<u64>, lent: usize) -> Result<Closing, u32> {
+    if lent < 20 {
+        return Err(9);
+    }
+    let (header, section) = read_recording(recording)?;
+    let last = last_edge_of(section) as u64;
+    let end = end.unwrap_or(last);
+    if end < last || end > GREATEST_END {
+        return Err(8);
+    }
+    Ok(close(&header, section, end as i64))
+}
+
+/// Outcome 8, rule 8, record 24, partner 24, edge 48, needed 24, found 24.
+pub fn verdict_bytes(verdict: &Verdict) -> [u8; 20] {
+    let (outcome, broken) = match verdict {
+        Verdict::Clean { records, end } => (0, Break { record: *records, edge: *end, ..Break::default() }),
+        Verdict::Broken(broken) => (1, *broken),
+    };
+    let mut bytes = vec![outcome, broken.rule];
+    let mut put = |value: i64, size: usize| bytes.extend(&value.to_be_bytes()[8 - size..]);
+    put(broken.record as i64, 3);
+    put(broken.partner as i64, 3);
+    put(broken.edge, 6);
+    put(broken.needed, 3);
+    put(broken.found, 3);
+    bytes.try_into().unwrap()
+}
+
+pub fn verdict_line(verdict: &Verdict) -> String {
+    match verdict {
+        Verdict::Clean { records, end } => format!("clean {records} {end}"),
+        Verdict::Broken(b) => {
+            format!("broken {} {} {} {} {} {}", b.rule, b.record, b.partner, b.edge, b.needed, b.found)
+        }
+    }
+}
+
+/// The program's line: header first, then sections of 6,000 bytes, stopping at the first refusal.
+pub fn program_line(input: &[u8]) -> String {
+    let header_part = &input[..input.len().min(6)];
+    if let Err(refusal) = read_recording(header_part) {
+        return format!("refused {refusal}");
+    }
+    let mut records = 0;
+    for section in input[6..].chunks(6000) {
+        if let Some(refusal) = section_refusal(section, records) {
+            return format!("refused {refusal}");
+        }
+        records += section.len() / 6;
+    }
+    match judge(input, None, 20) {
+        Ok(closing) => verdict_line(&closing.verdict),
+        Err(refusal) => format!("refused {refusal}"),
+    }
+}
