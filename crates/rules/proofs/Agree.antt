@@ -1,279 +1,42 @@
 -- What the judge says of a record after a clean past is what the rules say, looking back.
 -- Assumes nothing.
-use Prim.Native.Nat.{ℕ, zero, suc, _+_, _-_, _<_}
+use Prim.Native.Nat.{ℕ, _+_, _-_, _<_}
 use native.Mathlib.Omega.{arith}
-use native.Mathlib.Decide.{ℕ-discrete}
-use mathlib.Core.Path.{_≡_, refl, sym, ap, _∙_, fun-ext}
+use mathlib.Core.Path.{_≡_, refl, sym, ap, _∙_}
 use mathlib.Core.Logic.{⊎-elim}
-use mathlib.Core.Bool.{Bool, true, false, cond, not, _&&_, _||_, and-true}
-use mathlib.Core.List.{List, [], _∷_}
-use lib.Dec.{ltb, eqb}
-use lib.ListN.{getD}
-use borrow.Author.Tests.{ltb-true, lt-ltb, le-ltb, ne-eqb, eq-eqb}
+use mathlib.Core.Bool.{Bool, true, false, cond, _&&_, _||_}
+use mathlib.Core.List.{_∷_}
+use lib.Dec.{ltb}
+use borrow.Author.Tests.{ne-eqb, eq-eqb}
 use Rattle.laws.specs.Eight.{table}
 use Rattle.laws.proofs.Eight.{getD-table}
-use Rattle.answers.specs.declared.Bank.{Bank}
-use Rattle.answers.specs.declared.Bank.the-variants.{Idle, Open, Closing}
 use Rattle.answers.specs.declared.Break.{Break}
 use Rattle.answers.specs.declared.Break.the-variants.{Fine, Broken}
 use Rattle.records.specs.declared.Record.{Record}
 use Rattle.records.specs.declared.Command.{Command}
-use Rattle.records.specs.declared.Command.the-variants.{Mrs, Ref, Pre, Act, Wr, Rd, Zq, Nop, Des, Sre, Srx, Low, Bad}
-use Rattle.records.specs.Command.{isA, a10}
+use Rattle.records.specs.declared.Command.the-variants.{Mrs, Ref, Act, Wr, Rd, Zq, Sre, Srx}
+use Rattle.records.specs.Command.{a10}
 use Rattle.chip.specs.declared.Chip.{Chip}
 use Rattle.judge.specs.declared.Mark.{Mark}
 use Rattle.judge.specs.declared.Read.{Read}
 use Rattle.judge.specs.declared.Wrote.{Wrote}
 use Rattle.judge.specs.Marks.{empty, needing, as10, as11, as13, as14, as19}
-use Rattle.judge.specs.Marks as marks
 use Rattle.judge.specs.Breaks as judge
 use Rattle.rules.specs.Past.{Past, edge, number, command, is, bankOf, on, latest, back, greatest}
-use Rattle.rules.specs.Search.{orElse, lowest, short, Spacing, row}
+use Rattle.rules.specs.Search.{orElse, Spacing, row}
 use Rattle.rules.specs.Registers.{dllReset}
 use Rattle.rules.specs.Banks.{actOn, closes, shuts, start, status}
-use Rattle.rules.specs.Rules.{concerns, may, barred, covered, r4, r6, r7, r9, r10, r11, r12r, r12w, r13, r14, r15, r16, r17, r18, r19, r20, r21, r22, rule2, rule3, rule5, rule8, rule23, spacing, spaced, since, fourth, checks, breakAt}
-use Rattle.rules.proofs.Generic.{decide, checkOf, Dominated, latest-only, constant-dominated}
-use Rattle.rules.proofs.Events.{never, both, push, latest-is}
+use Rattle.rules.specs.Rules.{concerns, barred, covered, r4, r6, r7, r9, r10, r11, r12r, r12w, r13, r14, r15, r16, r17, r18, r19, r20, r21, r22, rule2, rule3, rule5, rule23, spacing, checks, breakAt}
+use Rattle.rules.proofs.Generic.{decide, Dominated, constant-dominated}
+use Rattle.rules.proofs.Events.{never, both, push}
 use Rattle.rules.proofs.Clean.{Clean, lowest-ext, is-other}
 use Rattle.rules.proofs.Starts.{greatest-latest}
 use Rattle.rules.proofs.Facts.{Sound}
-use Rattle.rules.proofs.Dominate.{need4, need10, need11, need13, need14, need18, need19, dominated-part, dominated4, dominated10, dominated11, dominated13, dominated14, dominated18, dominated19}
+use Rattle.rules.proofs.Dominate.{need4, need10, need11, need18, dominated-part, dominated4, dominated10, dominated11, dominated13, dominated14, dominated18, dominated19}
 use Rattle.rules.proofs.Summary.{mark, rdOn, wrOn, startMark, readOf, wroteOf, kept, written, acts, rests, shared}
-use Rattle.rules.proofs.Status.{mark-num, latest-number, status-of}
-
--- ── The judge's words and the rules' ────────────────────────────────────────────────────────
-
-pub or-same : (a b : Break) → judge.orElse a b ≡ orElse a b
-unfolding judge.orElse orElse
-or-same Fine b = refl
-or-same (Broken k n m f) b = refl
-
-pub lowest-same : (f : ℕ → Break) (n : ℕ) → judge.lowest f n ≡ lowest f n
-unfolding judge.lowest lowest
-lowest-same f zero = refl
-lowest-same f (suc n) = or-same (judge.lowest f n) (f n) ∙ ap (λ b. orElse b (f n)) (lowest-same f n)
-
--- the check of one mark, by itself
-abbrev pub check : (k e : ℕ) → Mark → Break
-check k e m = short k e (m .at) (m .num) (m .need) Fine
-
--- a check that is made where x holds, before the rest
-when-is : (x : Bool) (k e : ℕ) (m : Mark) (rest : Break) → judge.whenIs x k e m rest ≡ orElse (cond x (check k e m) Fine) rest
-unfolding marks.spaced orElse
-when-is false k e m rest = refl
-when-is true k e m rest = go (ltb (e - m .at) (m .need))
-  where
-    go : (y : Bool) → cond y (Broken k (m .num) (m .need) (e - m .at)) rest ≡ orElse (cond y (Broken k (m .num) (m .need) (e - m .at)) Fine) rest
-    go true = refl
-    go false = refl
-
--- one rule more
-also : (x : Bool) (k e : ℕ) (m : Mark) {R rest others : Break} → cond x (check k e m) Fine ≡ R → rest ≡ others → judge.whenIs x k e m rest ≡ orElse R others
-also x k e m {R} {rest} {others} p q = when-is x k e m rest ∙ (λ i. orElse (p i) (q i))
-
-check-mark : (k e : ℕ) (need : Past → ℕ) (s : Past) → check k e (mark need s) ≡ checkOf k e need s
-check-mark k e need [] = rw (le-ltb (e - 0) 0 (omega arith))
-check-mark k e need (r ∷ p) = refl
-
--- an event under a constant need
-needing-mark : (n : ℕ) (need : Past → ℕ) (s : Past) → needing n (mark need s) ≡ mark (λ _. n) s
-unfolding needing
-needing-mark n need [] = refl
-needing-mark n need (r ∷ p) = rw (ne-eqb (number (r ∷ p)) 0 (λ z. omega arith))
-
-back-latest : (kind : Past → Bool) (p : Past) → back kind 0 p ≡ latest kind p
-back-latest kind [] = refl
-back-latest kind (r ∷ p) = ap (cond (kind (r ∷ p)) (r ∷ p)) (back-latest kind p)
-
-or-fine : (b : Break) → orElse b Fine ≡ b
-unfolding orElse
-or-fine Fine = refl
-or-fine (Broken k n m f) = refl
-
--- the checks after rule 3
-abbrev spacingChecks : Chip → List (Record → Past → Break)
-spacingChecks C =
-    spaced C r4 ∷ rule5 C ∷ spaced C r6 ∷ spaced C r7 ∷ rule8 C ∷ spaced C r9 ∷ spaced C r10 ∷ spaced C r11 ∷ spaced C r12r ∷ spaced C r12w
-    ∷ spaced C r13 ∷ spaced C r14 ∷ spaced C r15 ∷ spaced C r16 ∷ spaced C r17 ∷ spaced C r18 ∷ spaced C r19 ∷ spaced C r20 ∷ spaced C r21
-    ∷ spaced C r22 ∷ rule23 C ∷ []
-
--- a rule whose past is dominated: the check of one mark
-pub row-agrees : (R : Spacing) (r : Record) (p : Past) → Dominated (R .from (r ∷ p)) (R .need) p
-    → row R r p ≡ cond (R .to (r ∷ p)) (check (R .name) (edge (r ∷ p)) (mark (R .need) (latest (R .from (r ∷ p)) p))) Fine
-row-agrees R r p d = ap (λ b. cond (R .to (r ∷ p)) b Fine)
-    (latest-only (R .name) (edge (r ∷ p)) (R .from (r ∷ p)) (R .need) p (omega arith) d
-    ∙ sym (check-mark (R .name) (edge (r ∷ p)) (R .need) (latest (R .from (r ∷ p)) p)))
-
--- of all banks, or of one
-covered-latest : (k : Past → Bool) (a : Bool) (b : ℕ) (p : Past)
-    → latest (λ s. k s && (a || on b s)) p ≡ cond a (latest k p) (latest (λ s. k s && on b s) p)
-covered-latest k true b p = ap (λ (f : Past → Bool). latest f p) (fun-ext (λ s. and-true (k s)))
-covered-latest k false b p = refl
-
-module _ (C : Chip) where
-  as10-mark : (s : Past) → as10 (readOf C s) ≡ mark (need10 C) s
-  as10-mark [] = refl
-  as10-mark (r ∷ p) = refl
-
-  as13-mark : (s : Past) → as13 (readOf C s) ≡ mark (need13 C) s
-  as13-mark [] = refl
-  as13-mark (r ∷ p) = refl
-
-  as19-mark : (s : Past) → as19 (readOf C s) ≡ mark (need19 C) s
-  as19-mark [] = refl
-  as19-mark (r ∷ p) = refl
-
-  as11-mark : (s : Past) → as11 (wroteOf C s) ≡ mark (need11 C) s
-  as11-mark [] = refl
-  as11-mark (r ∷ p) = refl
-
-  as14-mark : (s : Past) → as14 (wroteOf C s) ≡ mark (need14 C) s
-  as14-mark [] = refl
-  as14-mark (r ∷ p) = refl
-
-  since-mark : (e : ℕ) (s : Past) → check 5 e (startMark C s) ≡ since C e s
-  since-mark e [] = rw (le-ltb (e - 0) 0 (omega arith))
-  since-mark e (r ∷ p) = refl
-
-  fourth-mark : (e : ℕ) (s : Past) → check 8 e (mark (λ _. C .tfaw) s) ≡ fourth C e s
-  fourth-mark e [] = rw (le-ltb (e - 0) 0 (omega arith))
-  fourth-mark e (r ∷ p) = refl
-
--- the latest of two kinds is the later of the latest of each
-later-of : (k l : Past → Bool) → ((s : Past) → k s ≡ true → l s ≡ false) → (p : Past)
-    → latest (λ s. k s || l s) p ≡ cond (ltb (number (latest l p)) (number (latest k p))) (latest k p) (latest l p)
-later-of k l d [] = refl
-later-of k l d (r ∷ p) = ⊎-elim
-    (λ (y : k (r ∷ p) ≡ true). rw (y, d (r ∷ p) y, lt-ltb (number (latest l p)) (number (r ∷ p)) (omega (arith, latest-number l p))))
-    (λ (n : k (r ∷ p) ≡ false). ⊎-elim
-    (λ (y : l (r ∷ p) ≡ true). rw (n, y, le-ltb (number (r ∷ p)) (number (latest k p)) (omega (arith, latest-number k p))))
-    (λ (z : l (r ∷ p) ≡ false). rw (n, z) (later-of k l d p))
-    (decide (l (r ∷ p))))
-    (decide (k (r ∷ p)))
-
-srx-not-ref : (s : Past) → is Srx s ≡ true → is Ref s ≡ false
-srx-not-ref s y = is-other Srx Ref s (λ e. omega arith) y
-
-woken : (p : Past) → is Srx (latest (λ s. is Srx s || is Ref s) p) ≡ ltb (number (latest (is Ref) p)) (number (latest (is Srx) p))
-woken p = ap (is Srx) (later-of (is Srx) (is Ref) srx-not-ref p) ∙ ⊎-elim
-    (λ (y : ltb (number (latest (is Ref) p)) (number (latest (is Srx) p)) ≡ true). rw y (⊎-elim
-    (λ (n : latest (is Srx) p ≡ []). let z : number (latest (is Srx) p) ≡ 0 = ap number n in absurd (omega (arith, ltb-true)))
-    (λ w. w .1)
-    (latest-is (is Srx) p)))
-    (λ (n : ltb (number (latest (is Ref) p)) (number (latest (is Srx) p)) ≡ false). rw n (⊎-elim
-    (λ (n : latest (is Ref) p ≡ []). ap (is Srx) n)
-    (λ w. is-other Ref Srx (latest (is Ref) p) (λ e. omega arith) (w .1))
-    (latest-is (is Ref) p)))
-    (decide (ltb (number (latest (is Ref) p)) (number (latest (is Srx) p))))
-
--- ── Rule 2 ──────────────────────────────────────────────────────────────────────────────────
-
--- what a command wants of a bank is what it may find
-may-is : (c : Command) (k : Bank) → barred c true k ≡ judge.barredBy (judge.wants c) k
-may-is Mrs Idle = refl
-may-is Mrs (Open a n w) = refl
-may-is Mrs (Closing a n w) = refl
-may-is Ref Idle = refl
-may-is Ref (Open a n w) = refl
-may-is Ref (Closing a n w) = refl
-may-is Pre Idle = refl
-may-is Pre (Open a n w) = refl
-may-is Pre (Closing a n w) = refl
-may-is Act Idle = refl
-may-is Act (Open a n w) = refl
-may-is Act (Closing a n w) = refl
-may-is Wr Idle = refl
-may-is Wr (Open a n w) = refl
-may-is Wr (Closing a n w) = refl
-may-is Rd Idle = refl
-may-is Rd (Open a n w) = refl
-may-is Rd (Closing a n w) = refl
-may-is Zq Idle = refl
-may-is Zq (Open a n w) = refl
-may-is Zq (Closing a n w) = refl
-may-is Nop Idle = refl
-may-is Nop (Open a n w) = refl
-may-is Nop (Closing a n w) = refl
-may-is Des Idle = refl
-may-is Des (Open a n w) = refl
-may-is Des (Closing a n w) = refl
-may-is Sre Idle = refl
-may-is Sre (Open a n w) = refl
-may-is Sre (Closing a n w) = refl
-may-is Srx Idle = refl
-may-is Srx (Open a n w) = refl
-may-is Srx (Closing a n w) = refl
-may-is Low Idle = refl
-may-is Low (Open a n w) = refl
-may-is Low (Closing a n w) = refl
-may-is Bad Idle = refl
-may-is Bad (Open a n w) = refl
-may-is Bad (Closing a n w) = refl
-
--- the command speaks of all banks, as the judge asks it
-abbrev speaks : Command → Bool → Bool
-speaks c a = isA Pre c && a || (isA Ref c || (isA Mrs c || (isA Zq c || isA Sre c)))
-
-all-concern : (c : Command) (a o : Bool) → speaks c a ≡ true → concerns c a o ≡ true
-all-concern Mrs a o h = refl
-all-concern Ref a o h = refl
-all-concern Pre true o h = refl
-all-concern Pre false o h = never h refl
-all-concern Act a o h = never h refl
-all-concern Wr a o h = never h refl
-all-concern Rd a o h = never h refl
-all-concern Zq a o h = refl
-all-concern Nop a o h = never h refl
-all-concern Des a o h = never h refl
-all-concern Sre a o h = refl
-all-concern Srx a o h = never h refl
-all-concern Low a o h = never h refl
-all-concern Bad a o h = never h refl
-
-off-concern : (c : Command) (a : Bool) → speaks c a ≡ false → concerns c a false ≡ false
-off-concern Mrs a h = never refl h
-off-concern Ref a h = never refl h
-off-concern Pre true h = never refl h
-off-concern Pre false h = refl
-off-concern Act a h = refl
-off-concern Wr a h = refl
-off-concern Rd a h = refl
-off-concern Zq a h = never refl h
-off-concern Nop a h = refl
-off-concern Des a h = refl
-off-concern Sre a h = never refl h
-off-concern Srx a h = refl
-off-concern Low a h = refl
-off-concern Bad a h = refl
-
-own-concern : (c : Command) (a : Bool) (k : Bank) → speaks c a ≡ false → barred c (concerns c a true) k ≡ judge.barredBy (judge.wants c) k
-own-concern Mrs a k h = never refl h
-own-concern Ref a k h = never refl h
-own-concern Pre true k h = never refl h
-own-concern Pre false k h = may-is Pre k
-own-concern Act a k h = may-is Act k
-own-concern Wr a k h = may-is Wr k
-own-concern Rd a k h = may-is Rd k
-own-concern Zq a k h = never refl h
-own-concern Nop a k h = may-is Nop k
-own-concern Des a k h = may-is Des k
-own-concern Sre a k h = never refl h
-own-concern Srx a k h = may-is Srx k
-own-concern Low a k h = may-is Low k
-own-concern Bad a k h = may-is Bad k
-
--- where only bank b has something to say
-lowest-single : (f : ℕ → Break) (n b : ℕ) → b < n → ((c : ℕ) → c < n → (c ≡ b → ⊥) → f c ≡ Fine) → lowest f n ≡ f b
-unfolding lowest orElse
-lowest-single f zero b l h = absurd (omega arith)
-lowest-single f (suc n) b l h = elim (ℕ-discrete b n) [
-  | yes q ↦ rw (none-below n (λ c m. h c (omega arith) (λ z. omega arith)), q)
-  | no q ↦ rw (lowest-single f n b (omega arith) (λ c m z. h c (omega arith) z), h n (omega arith) (λ z. q (sym z))) (or-fine (f b))
-]
-  where
-    none-below : (m : ℕ) → ((c : ℕ) → c < m → f c ≡ Fine) → lowest f m ≡ Fine
-    none-below zero g = refl
-    none-below (suc m) g = rw (none-below m (λ c l. g c (omega arith)), g m (omega arith))
+use Rattle.rules.proofs.Status.{mark-num, status-of}
+use Rattle.rules.proofs.Words.{or-same, lowest-same, check, also, needing-mark, back-latest, or-fine, spacingChecks, row-agrees, covered-latest, as10-mark, as13-mark, as19-mark, as11-mark, as14-mark, since-mark, fourth-mark, later-of, srx-not-ref, woken}
+use Rattle.rules.proofs.InTheWay.{may-is, speaks, all-concern, off-concern, own-concern, lowest-single}
 
 module _ (C : Chip) (S : Sound C) (r : Record) (p : Past) (h : Clean C p) where
   abbrev e : ℕ

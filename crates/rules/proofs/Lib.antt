@@ -7,6 +7,9 @@ pub mod Fits
 pub mod Dominate
 pub mod Debts
 pub mod Summary
+pub mod Moves
 pub mod Status
+pub mod Words
+pub mod InTheWay
 pub mod Agree
 pub mod Sense
