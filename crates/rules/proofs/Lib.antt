@@ -13,3 +13,4 @@ pub mod Words
 pub mod InTheWay
 pub mod Agree
 pub mod Sense
+pub mod Gap
