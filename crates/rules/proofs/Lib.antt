@@ -14,3 +14,7 @@ pub mod InTheWay
 pub mod Agree
 pub mod Sense
 pub mod Gap
+pub mod Edges
+pub mod Turn
+pub mod Whole
+pub mod Closing

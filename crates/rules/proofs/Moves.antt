@@ -68,7 +68,7 @@ no-close false false true h = h
 no-close false false false h = h
 
 -- two tables that agree at the eight banks
-all8 : {A : Type 0} (f g : ℕ → A) → ((b : ℕ) → b < 8 → f b ≡ g b) → table f ≡ table g
+pub all8 : {A : Type 0} (f g : ℕ → A) → ((b : ℕ) → b < 8 → f b ≡ g b) → table f ≡ table g
 unfolding table
 all8 f g h = λ i.
     h 0 (omega arith) i ∷ h 1 (omega arith) i ∷ h 2 (omega arith) i ∷ h 3 (omega arith) i ∷ h 4 (omega arith) i ∷ h 5 (omega arith) i

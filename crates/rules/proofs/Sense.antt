@@ -20,16 +20,16 @@ use Rattle.rules.specs.Verdict.{recordAt, numberAt, Outcome, clean, stop
 use Rattle.rules.proofs.Generic.{decide}
 use Rattle.rules.proofs.Events.{number-le}
 
-stop-clean {ℓ} : {A : Type ℓ} {t n : ℕ} {b : Break} → stop t n b ≡ clean → A
+pub stop-clean {ℓ} : {A : Type ℓ} {t n : ℕ} {b : Break} → stop t n b ≡ clean → A
 stop-clean h = let z : _≡_ {A = ℕ} 0 1 = cc in absurd (omega arith)
 
-keep-clean : (v w : Outcome) → keep v w ≡ clean → (v ≡ clean) × (w ≡ clean)
+pub keep-clean : (v w : Outcome) → keep v w ≡ clean → (v ≡ clean) × (w ≡ clean)
 unfolding keep
 keep-clean clean w h = (refl, h)
 keep-clean (stop t n b) w h = stop-clean h
 
 module _ (C : Chip) (q : Past) where
-  verdict-next : (t : ℕ) → 0 < t → verdictTo C q t ≡ keep (verdictTo C q (t - 1)) (brokenAt C q t)
+  pub verdict-next : (t : ℕ) → 0 < t → verdictTo C q t ≡ keep (verdictTo C q (t - 1)) (brokenAt C q t)
   unfolding verdictTo
   verdict-next zero l = absurd (omega arith)
   verdict-next (suc t) l =

@@ -1,0 +1,155 @@
+-- Closing: what the judge answers at an end edge is what the rules say of the recording closed there.
+-- Assumes nothing.
+use Prim.Native.Nat.{ℕ, _+_, _-_, _≤_, _<_}
+use native.Mathlib.Omega.{arith}
+use mathlib.Core.Path.{_≡_, refl, sym, ap, _∙_}
+use mathlib.Core.Bool.{Bool, true, false, cond}
+use mathlib.Core.List.{List, [], _∷_}
+use lib.Dec.{ltb}
+use lib.ListN.{getD}
+use Rattle.laws.specs.Eight.{table}
+use Rattle.laws.proofs.Eight.{getD-table}
+use Rattle.answers.specs.declared.Break.{Break}
+use Rattle.answers.specs.declared.Break.the-variants.{Fine, Broken}
+use Rattle.answers.specs.declared.Verdict.{Verdict}
+use Rattle.answers.specs.Answer.{shownOf}
+use Rattle.chip.specs.declared.Chip.{Chip}
+use Rattle.judge.specs.declared.Late.{Late}
+use Rattle.judge.specs.declared.Closed.{Closed}
+use Rattle.judge.specs.declared.Register.{Register}
+use Rattle.judge.specs.Marks.{empty, noVerdict}
+use Rattle.judge.specs.Deadlines.{why, nextLate}
+use Rattle.judge.specs.Step.{verdictAt, cleanAt}
+use Rattle.judge.specs.Breaks.{statusOf}
+use Rattle.judge.specs.Calls as judge
+use Rattle.judge.specs.Calls.{verdictOf, restOf, banksAt, registersOf, closedOf}
+use Rattle.rules.specs.Past.{Past, edge, number, upTo}
+use Rattle.rules.specs.Search.{orElse}
+use Rattle.rules.specs.Registers as rules
+use Rattle.rules.specs.Registers.{regs, mr}
+use Rattle.rules.specs.Banks.{status}
+use Rattle.rules.specs.Deadlines.{owedAt}
+use Rattle.rules.specs.Verdict.{Outcome, clean, stop, verdictTo, shown, shownVerdict, rest, bankAt, registerAt, owedIn, Apart}
+use Rattle.rules.proofs.Facts.{Sound}
+use Rattle.rules.proofs.Debts.{debtOf, owed-at}
+use Rattle.rules.proofs.Summary.{kept, written, shared, summary}
+use Rattle.rules.proofs.Moves.{all8}
+use Rattle.rules.proofs.Status.{status-of}
+use Rattle.rules.proofs.Sense.{stays-to, stop-at, stop-after}
+use Rattle.rules.proofs.Gap.{now24, now25, due-next}
+use Rattle.rules.proofs.Edges.{up-to-all, gap-says, late-after, small-owed}
+use Rattle.rules.proofs.Turn.{said}
+use Rattle.rules.proofs.Whole.{frozen, carriedBy, carried, carried-clean}
+
+-- ── The answer ──────────────────────────────────────────────────────────────────────────────
+
+abbrev pub registerOf : rules.Register → Register
+registerOf g = record { written = g .written; code = g .code }
+
+-- What the rules say of the recording p closed at the edge t, as an answer: the verdict, the eight banks, the four registers and the
+-- debt plus 8.
+unfoldable pub answer : Chip → Past → (end : ℕ) → Closed
+answer C p t =
+    record {
+      refused = 0;
+      verdict = shownVerdict C p t;
+      banks = table (λ b. shownOf (bankAt C p t b));
+      registers =
+          registerOf (registerAt C p t 0) ∷ registerOf (registerAt C p t 1) ∷ registerOf (registerAt C p t 2)
+          ∷ registerOf (registerAt C p t 3) ∷ [];
+      owed = owedIn C p t;
+    }
+
+-- ── Closing ─────────────────────────────────────────────────────────────────────────────────
+
+rest-shown : (v : Outcome) (n t : ℕ) → restOf (shown v n t) t ≡ rest v t
+rest-shown clean n t = refl
+rest-shown (stop u m Fine) n t = refl
+rest-shown (stop u m (Broken k x y f)) n t = refl
+
+module _ (C : Chip) where
+  -- banks, registers and debt at the edge u, of what is kept of q
+  banks-at : (q : Past) (u : ℕ) → banksAt (table (kept C q)) u ≡ table (λ b. shownOf (status C b q u))
+  banks-at q u =
+      all8 (λ b. shownOf (statusOf (getD (table (kept C q)) b empty) u)) (λ b. shownOf (status C b q u))
+      (λ b l. ap shownOf (ap (λ k. statusOf k u) (getD-table (kept C q) b empty l) ∙ status-of C b u q))
+
+  abbrev registersIn : Past → List Register
+  registersIn q = registerOf (mr 0 q) ∷ registerOf (mr 1 q) ∷ registerOf (mr 2 q) ∷ registerOf (mr 3 q) ∷ []
+
+  registers-in : (q : Past) → registersOf (regs q) (written C q) ≡ registersIn q
+  unfolding regs written
+  registers-in q = refl
+
+  owed-in : 0 < C .trefi → (q : Past) (u : ℕ) → judge.owedAt C (debtOf (C .trefi) q) (edge q) u ≡ owedAt (C .trefi) q u
+  unfolding debtOf
+  owed-in z q u = sym (owed-at z q u)
+
+module _ (C : Chip) (S : Sound C) (p : Past) (t : ℕ) where
+  -- a state that keeps the summary of the records up to the edge at which the rules look
+  parts :
+      (w : Verdict) (q : Past) → verdictOf C (frozen C p q w) t ≡ shownVerdict C p t → upTo (rest (verdictTo C p t) t) p ≡ q
+      → closedOf C (frozen C p q w) t ≡ answer C p t
+  unfolding closedOf answer frozen shared
+  parts w q says keeps = λ i. record {
+    refused = 0;
+    verdict = says i;
+    banks = (ap (banksAt (table (kept C q))) at ∙ banks-at C q u ∙ ap (λ x. table (λ b. shownOf (status C b x u))) (sym keeps)) i;
+    registers = (registers-in C q ∙ ap (registersIn C) (sym keeps)) i;
+    owed = (ap (judge.owedAt C (debtOf (C .trefi) q) (edge q)) at ∙ owed-in C (S .refi-least) q u ∙ ap (λ x. owedAt (C .trefi) x u) (sym keeps)) i;
+  }
+    where
+      u : ℕ
+      u = rest (verdictTo C p t) t
+
+      at : restOf (verdictOf C (frozen C p q w) t) t ≡ rest (verdictTo C p t) t
+      at = ap (λ v. restOf v t) says ∙ rest-shown (verdictTo C p t) (number p) t
+
+  -- the edges after a clean past up to the end
+  end-says : Apart p → edge p ≤ t → verdictTo C p (edge p) ≡ clean → verdictOf C (summary C p) t ≡ shownVerdict C p t
+  unfolding verdictOf summary
+  end-says apart l z =
+      let x = nextLate C (summary C p) (t + 1) in
+      let e : t + 1 - 1 ≡ t = omega arith in
+      let pos = S .refi-least in
+      go (ltb (x .at) (t + 1))
+      ∙ ap (λ v. shown v (number p) t)
+      (sym (gap-says C p (λ u. orElse (now24 C p u) (now25 C p u)) (edge p) (t + 1) (t + 1) x (omega arith) (omega arith)
+      (λ u a b. late-after C pos p u a) (due-next C p pos (small-owed C pos p apart z) (t + 1)) z)
+      ∙ ap (verdictTo C p) e)
+    where
+      x : Late
+      x = nextLate C (summary C p) (t + 1)
+
+      go : (b : Bool) → cond b (verdictAt (x .at) 0 (why x)) (cleanAt (number p) t) ≡ shown (cond b (stop (x .at) 0 (why x)) clean) (number p) t
+      go true = refl
+      go false = refl
+
+  -- a break stays
+  broken-says : (q : Past) (u n : ℕ) (b : Break) → verdictOf C (frozen C p q (said (stop u n b))) t ≡ shown (stop u n b) (number p) t
+  unfolding verdictOf frozen
+  broken-says q u n Fine = refl
+  broken-says q u n (Broken k x m f) = refl
+
+  summary-frozen : summary C p ≡ frozen C p p noVerdict
+  unfolding summary frozen
+  summary-frozen = refl
+
+  -- after any recording
+  pub closed-carried : Apart p → edge p ≤ t → closedOf C (carried C p) t ≡ answer C p t
+  unfolding carriedBy
+  closed-carried apart l = go (verdictTo C p (edge p)) refl
+    where
+      at-end : verdictTo C p (edge p) ≡ clean → (v : Outcome) → verdictTo C p t ≡ v → upTo (rest v t) p ≡ p
+      at-end z clean h = up-to-all t p l
+      at-end z (stop u n b) h =
+          up-to-all (u - 1) p (omega (arith, stop-after C p (edge p) u n b z (stop-at C p t u n b h .1)))
+
+      go : (v : Outcome) → verdictTo C p (edge p) ≡ v → closedOf C (carriedBy C v p) t ≡ answer C p t
+      go clean z =
+          ap (λ s. closedOf C s t) (carried-clean C p ∙ summary-frozen)
+          ∙ parts noVerdict p (ap (λ s. verdictOf C s t) (sym summary-frozen) ∙ end-says apart l z) (at-end z (verdictTo C p t) refl)
+      go (stop u n b) z =
+          let h : verdictTo C p t ≡ stop u n b = stays-to C p (edge p) t u n b l z in
+          parts (said (stop u n b)) (upTo (u - 1) p)
+          (broken-says (upTo (u - 1) p) u n b ∙ ap (λ v. shown v (number p) t) (sym h)) (ap (λ v. upTo (rest v t) p) h)

@@ -1,0 +1,183 @@
+-- The edges of a recording one by one, with one record more: what a later record leaves as it was, the edges of a gap, and the edge of
+-- a record.
+-- Assumes nothing.
+use Prim.Native.Nat.{ℕ, zero, suc, _-_, _≤_, _<_}
+use native.Mathlib.Omega.{arith}
+use native.Mathlib.Decide.{ℕ-discrete}
+use mathlib.Core.Path.{_≡_, refl, sym, ap, _∙_}
+use mathlib.Core.Logic.{⊎-elim}
+use mathlib.Core.Bool.{true, false, cond}
+use mathlib.Core.List.{[], _∷_}
+use lib.Dec.{ltb, leb}
+use borrow.Author.Tests.{ltb-true, ltb-false, leb-false, le-leb, lt-leb, eq-eqb, ne-eqb}
+use Rattle.answers.specs.declared.Break.{Break}
+use Rattle.answers.specs.declared.Break.the-variants.{Fine, Broken}
+use Rattle.records.specs.declared.Record.{Record}
+use Rattle.records.specs.declared.Command.the-variants.{Ref}
+use Rattle.chip.specs.declared.Chip.{Chip}
+use Rattle.judge.specs.declared.Late.{Late}
+use Rattle.judge.specs.Deadlines.{why, owing}
+use Rattle.judge.specs.Step.{lateAt}
+use Rattle.rules.specs.Past.{Past, edge, number, is, latest, upTo}
+use Rattle.rules.specs.Search.{orElse, lowest}
+use Rattle.rules.specs.Banks.{status}
+use Rattle.rules.specs.Rules.{checks, breakAt}
+use Rattle.rules.specs.Deadlines.{late, rule24, rule25, owedTo, owedAt, deadlineAt}
+use Rattle.rules.specs.Verdict.{recordAt, numberAt, clean, stop, say, brokenAt, keep, verdictTo, Apart}
+use Rattle.rules.proofs.Generic.{decide, broken-fine}
+use Rattle.rules.proofs.Events.{orElse-fine}
+use Rattle.rules.proofs.Clean.{broken, Clean}
+use Rattle.rules.proofs.Debts.{owed-now}
+use Rattle.rules.proofs.Sense.{stop-clean, verdict-next, skip-to, stays-to, clean-edges}
+use Rattle.rules.proofs.Gap.{Due, now24, now25, late24-at, late25-at}
+
+-- ── Records up to an edge ───────────────────────────────────────────────────────────────────
+
+-- all of them from the latest on, and not the latest before it
+pub up-to-all : (t : ℕ) (p : Past) → edge p ≤ t → upTo t p ≡ p
+up-to-all t [] h = refl
+up-to-all t (r ∷ p) h = rw (le-leb (edge (r ∷ p)) t h)
+
+pub up-to-skip : (t : ℕ) (r : Record) (p : Past) → t < edge (r ∷ p) → upTo t (r ∷ p) ≡ upTo t p
+up-to-skip t r p h = rw (lt-leb (edge (r ∷ p)) t h)
+
+pub up-to-before : (r : Record) (p : Past) (t : ℕ) → edge p < t → t ≤ edge (r ∷ p) → upTo (t - 1) (r ∷ p) ≡ p
+up-to-before r p t l m = up-to-skip (t - 1) r p (omega arith) ∙ up-to-all (t - 1) p (omega arith)
+
+-- ── What is said of an edge ─────────────────────────────────────────────────────────────────
+
+say-clean : (t n : ℕ) (b d : Break) → say t n b d ≡ clean → (b ≡ Fine) × (d ≡ Fine)
+say-clean t n Fine Fine h = (refl, refl)
+say-clean t n Fine (Broken k x m f) h = stop-clean h
+say-clean t n (Broken k x m f) d h = stop-clean h
+
+-- with no break of a record its number does not matter
+say-late : (t n : ℕ) (d : Break) → say t n Fine d ≡ say t 0 Fine d
+say-late t n Fine = refl
+say-late t n (Broken k x m f) = refl
+
+module _ (C : Chip) where
+  record-after : (p : Past) (s : ℕ) → edge p < s → recordAt C p s ≡ Fine
+  record-after [] s l = refl
+  record-after (r ∷ p) s l = rw (ne-eqb (edge (r ∷ p)) s (λ e. omega arith)) (record-after p s (omega arith))
+
+  -- ── A later record ────────────────────────────────────────────────────────────────────────
+
+  module _ (r : Record) (p : Past) where
+    late-same : (s : ℕ) → 0 < s → s < edge (r ∷ p) → rule24 C (r ∷ p) s ≡ rule24 C p s
+    late-same s a l = ap (λ u. lowest (λ b. late (C .most) (status C b u (s - 1)) s) 8) (up-to-skip (s - 1) r p (omega arith))
+
+    owed-same : (s : ℕ) → s < edge (r ∷ p) → rule25 C (r ∷ p) s ≡ rule25 C p s
+    owed-same s l = ap (λ u. owing (owedAt (C .trefi) u s) (number (latest (is Ref) u))) (up-to-skip s r p l)
+
+    broken-same : (s : ℕ) → 0 < s → s < edge (r ∷ p) → brokenAt C (r ∷ p) s ≡ brokenAt C p s
+    broken-same s a l =
+        rw (ne-eqb (edge (r ∷ p)) s (λ e. omega arith))
+        (λ i. say s (numberAt p s) (recordAt C p s) (orElse (late-same s a l i) (owed-same s l i)))
+
+    -- the edges before it are as they were
+    pub verdict-same : (t : ℕ) → t < edge (r ∷ p) → verdictTo C (r ∷ p) t ≡ verdictTo C p t
+    unfolding verdictTo
+    verdict-same zero l = refl
+    verdict-same (suc t) l = λ i. keep (verdict-same t (omega arith) i) (broken-same (suc t) (omega arith) l i)
+
+  -- where no edge is broken no record is
+  records-clean : (p : Past) → Apart p → ((s : ℕ) → 0 < s → s ≤ edge p → brokenAt C p s ≡ clean) → Clean C p
+  unfolding orElse
+  records-clean [] a h = refl
+  records-clean (r ∷ p) a h =
+      let e = edge (r ∷ p) in
+      let w = say-clean e (numberAt (r ∷ p) e) (recordAt C (r ∷ p) e) (deadlineAt C (r ∷ p) e) (h e (omega arith) (omega arith)) .0 in
+      let now : breakAt (checks C) r p ≡ Fine = rw (eq-eqb (edge (r ∷ p)) (edge (r ∷ p)) refl) at w in
+      let old : broken C p ≡ Fine = records-clean p (a .1) (λ s x y. sym (broken-same r p s x (omega arith)) ∙ h s x (omega arith)) in
+      rw (old, now)
+
+  pub clean-past : (p : Past) → Apart p → verdictTo C p (edge p) ≡ clean → Clean C p
+  clean-past p apart z = records-clean p apart (clean-edges C p (edge p) z)
+
+  -- ── A gap ─────────────────────────────────────────────────────────────────────────────────
+
+  -- after lo and before e, where only deadlines can pass: x is the first of them before hi
+  pub gap-says :
+      (q : Past) (f : ℕ → Break) (lo e hi : ℕ) (x : Late) → lo < e → e ≤ hi → ((t : ℕ) → lo < t → t < e → brokenAt C q t ≡ say t 0 Fine (f t))
+      → Due f lo hi x → verdictTo C q lo ≡ clean → verdictTo C q (e - 1) ≡ cond (ltb (x .at) e) (stop (x .at) 0 (why x)) clean
+  unfolding keep
+  gap-says q f lo e hi x far near same d z = ⊎-elim
+      (λ (y : ltb (x .at) e ≡ true).
+      let m : x .at < e = ltb-true _ _ y in
+      let w = d .hit (omega arith) in
+      let a : lo < x .at = w .0 in
+      rw y (stays-to C q (x .at) (e - 1) _ _ _ (omega arith)
+      (verdict-next C q (x .at) (omega arith)
+      ∙ ap (λ v. keep v (brokenAt C q (x .at))) (before (x .at - 1) (omega arith) (omega arith) (omega arith))
+      ∙ same (x .at) a m
+      ∙ ap (say (x .at) 0 Fine) (w .1))))
+      (λ (n : ltb (x .at) e ≡ false).
+      let m : e ≤ x .at = ltb-false _ _ n in
+      rw n (before (e - 1) (omega arith) (omega arith) (omega arith)))
+      (decide (ltb (x .at) e))
+    where
+      before : (t : ℕ) → lo ≤ t → t < x .at → t < e → verdictTo C q t ≡ clean
+      before t l m u =
+          skip-to C q lo t l (λ w a b. same w a (omega arith) ∙ ap (say w 0 Fine) (d .none w a (omega arith) (omega arith))) z
+
+  -- after p, of p itself or of p with one more record
+  only-late :
+      0 < C .trefi → (q p : Past) (t : ℕ) → edge p < t → upTo (t - 1) q ≡ p → upTo t q ≡ p → recordAt C q t ≡ Fine
+      → brokenAt C q t ≡ say t 0 Fine (orElse (now24 C p t) (now25 C p t))
+  only-late z q p t l h g f =
+      ap (λ b. say t (numberAt q t) b (deadlineAt C q t)) f
+      ∙ say-late t (numberAt q t) (deadlineAt C q t)
+      ∙ (λ i. say t 0 Fine (orElse (late24-at C p q t l h i) (late25-at C p z q t g i)))
+
+  pub late-after : 0 < C .trefi → (p : Past) (t : ℕ) → edge p < t → brokenAt C p t ≡ say t 0 Fine (orElse (now24 C p t) (now25 C p t))
+  late-after z p t l = only-late z p p t l (up-to-all (t - 1) p (omega arith)) (up-to-all t p (omega arith)) (record-after p t l)
+
+  pub late-between :
+      0 < C .trefi → (r : Record) (p : Past) (t : ℕ) → edge p < t → t < edge (r ∷ p)
+      → brokenAt C (r ∷ p) t ≡ say t 0 Fine (orElse (now24 C p t) (now25 C p t))
+  late-between z r p t l m =
+      only-late z (r ∷ p) p t l (up-to-before r p t l (omega arith)) (up-to-skip t r p m ∙ up-to-all t p (omega arith))
+      (rw (ne-eqb (edge (r ∷ p)) t (λ e. omega arith)) (record-after p t l))
+
+  -- ── The edge of a record ──────────────────────────────────────────────────────────────────
+
+  -- rule 25 at the edge of the latest record
+  pub owing-now : 0 < C .trefi → (p : Past) → rule25 C p (edge p) ≡ owing (owedTo (C .trefi) p) (number (latest (is Ref) p))
+  owing-now z p =
+      ap (λ u. owing (owedAt (C .trefi) u (edge p)) (number (latest (is Ref) u))) (up-to-all (edge p) p (omega arith))
+      ∙ ap (λ o. owing o (number (latest (is Ref) p))) (owed-now z p)
+
+  -- after a clean past at most 16 are owed
+  pub small-owed : 0 < C .trefi → (p : Past) → Apart p → verdictTo C p (edge p) ≡ clean → owedTo (C .trefi) p ≤ 16
+  unfolding owedTo
+  small-owed z [] a h = omega arith
+  small-owed z (r ∷ p) a h =
+      let e = edge (r ∷ p) in
+      let k = clean-edges C (r ∷ p) e h e (omega arith) (omega arith) in
+      let d = say-clean e (numberAt (r ∷ p) e) (recordAt C (r ∷ p) e) (deadlineAt C (r ∷ p) e) k .1 in
+      let w = orElse-fine (rule24 C (r ∷ p) e) _ d .1 in
+      ⊎-elim
+      (λ (y : leb 17 (owedTo (C .trefi) (r ∷ p)) ≡ true).
+      absurd (broken-fine (sym (ap (λ b. cond b (Broken 25 (number (latest (is Ref) (r ∷ p))) 8 9) Fine) y) ∙ sym (owing-now z (r ∷ p)) ∙ w)))
+      (λ (n : leb 17 (owedTo (C .trefi) (r ∷ p)) ≡ false). omega (arith, leb-false))
+      (decide (leb 17 (owedTo (C .trefi) (r ∷ p))))
+
+  -- what the record breaks, by its number, and which deadline passes there
+  pub at-record :
+      0 < C .trefi → (r : Record) (p : Past) → 1 ≤ r .step
+      → brokenAt C (r ∷ p) (edge (r ∷ p))
+      ≡ say (edge (r ∷ p)) (number (r ∷ p)) (breakAt (checks C) r p)
+      (orElse (now24 C p (edge (r ∷ p))) (owing (owedTo (C .trefi) (r ∷ p)) (number (latest (is Ref) (r ∷ p)))))
+  at-record z r p far =
+      let e = edge (r ∷ p) in
+      rw (eq-eqb (edge (r ∷ p)) (edge (r ∷ p)) refl)
+      (λ i. say e (number (r ∷ p)) (breakAt (checks C) r p)
+      (orElse (late24-at C p (r ∷ p) e (omega arith) (up-to-before r p e (omega arith) (omega arith)) i) (owing-now z (r ∷ p) i)))
+
+-- a deadline that is not before e passes at e, or not
+pub late-at : (f : ℕ → Break) (lo e hi : ℕ) (x : Late) → lo < e → e < hi → e ≤ x .at → Due f lo hi x → lateAt e x ≡ f e
+late-at f lo e hi x l h m d = elim (ℕ-discrete (x .at) e) [
+  | yes q ↦ rw (eq-eqb (x .at) e q) (sym (d .hit (omega arith) .1) ∙ ap f q)
+  | no q ↦ rw (ne-eqb (x .at) e q) (sym (d .none e l h (omega arith)))
+]

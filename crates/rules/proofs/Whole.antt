@@ -1,0 +1,120 @@
+-- The whole recording: the judge's state after any records is a function of the recording, and closing answers what the rules say.
+-- Assumes nothing.
+use Prim.Native.Nat.{ℕ, _-_, _≤_, _<_}
+use native.Mathlib.Omega.{arith}
+use mathlib.Core.Path.{_≡_, refl, sym, ap, _∙_}
+use mathlib.Core.Bool.{false, cond}
+use mathlib.Core.List.{List, [], _∷_, reverseAux}
+use Rattle.laws.specs.Eight.{table}
+use Rattle.answers.specs.declared.Break.{Break}
+use Rattle.answers.specs.declared.Break.the-variants.{Fine, Broken}
+use Rattle.answers.specs.declared.Verdict.{Verdict}
+use Rattle.records.specs.declared.Record.{Record}
+use Rattle.chip.specs.declared.Chip.{Chip}
+use Rattle.judge.specs.declared.State.{State}
+use Rattle.judge.specs.Marks.{noVerdict}
+use Rattle.judge.specs.Next.{due}
+use Rattle.judge.specs.Step.{isClean, turnIn, movedOf, stoppedOf, stepOf, foldOf, cleanAt, soFar}
+use Rattle.judge.specs.Calls.{startOf}
+use Rattle.rules.specs.Past.{Past, edge, number, upTo}
+use Rattle.rules.specs.Verdict.{Outcome, clean, stop, verdictTo, shown, verdictSoFar, rest, Apart, Steps}
+use Rattle.rules.proofs.Facts.{Sound}
+use Rattle.rules.proofs.Summary.{kept, shared, summary}
+use Rattle.rules.proofs.Moves.{turn-shared, moved-summary, summary-fresh}
+use Rattle.rules.proofs.Sense.{stays-to, stop-at, stop-after}
+use Rattle.rules.proofs.Edges.{up-to-all, up-to-skip, up-to-before, verdict-same}
+use Rattle.rules.proofs.Turn.{said, turn-says}
+
+-- the state that counts the records of p, keeps the summary of q and says v
+unfoldable pub frozen : Chip → (p q : Past) → Verdict → State
+frozen C p q v =
+    record {
+      header = C .header;
+      edge = edge p;
+      count = number p;
+      first = v;
+      banks = table (kept C q);
+      dues = table (λ b. due C (kept C q b));
+      shared = shared C q;
+    }
+
+-- The judge's state after the recording p, of which the rules say v: all of p is counted, and what is kept is kept of the records
+-- before the broken edge.
+unfoldable pub carriedBy : Chip → Outcome → Past → State
+carriedBy C v p = frozen C p (upTo (rest v (edge p)) p) (said v)
+
+abbrev pub carried : Chip → Past → State
+carried C p = carriedBy C (verdictTo C p (edge p)) p
+
+-- a stop is no clean verdict
+said-broken : (t n : ℕ) (b : Break) → isClean (said (stop t n b)) ≡ false
+said-broken t n Fine = refl
+said-broken t n (Broken k x m f) = refl
+
+pub carried-clean : (C : Chip) (p : Past) → carriedBy C clean p ≡ summary C p
+unfolding carriedBy frozen summary
+carried-clean C p = ap (λ q. frozen C p q noVerdict) (up-to-all (edge p) p (omega arith))
+
+-- a record after a break is only counted
+stopped : (C : Chip) (r : Record) (p q : Past) (v w : Verdict) → stoppedOf (frozen C p q w) r v ≡ frozen C (r ∷ p) q v
+unfolding stoppedOf frozen
+stopped C r p q v w = refl
+
+module _ (C : Chip) (S : Sound C) where
+  -- a record after a clean past
+  clean-next :
+      (r : Record) (p : Past) → 1 ≤ r .step → Apart p → verdictTo C p (edge p) ≡ clean → (v : Outcome)
+      → verdictTo C (r ∷ p) (edge (r ∷ p)) ≡ v → stepOf C (summary C p) r ≡ carriedBy C v (r ∷ p)
+  unfolding stepOf carriedBy frozen summary
+  clean-next r p far apart z v e = ap by (turn-says C S r p far apart z ∙ ap said e) ∙ go v e
+    where
+      by : Verdict → State
+      by w = cond (isClean w) (movedOf C (summary C p) r (turnIn C (summary C p) r .shared)) (stoppedOf (summary C p) r w)
+
+      go : (v : Outcome) → verdictTo C (r ∷ p) (edge (r ∷ p)) ≡ v → by (said v) ≡ carriedBy C v (r ∷ p)
+      go clean e = ap (movedOf C (summary C p) r) (turn-shared C r p (S .refi-least)) ∙ moved-summary C r p ∙ sym (carried-clean C (r ∷ p))
+      go (stop t n b) e =
+          let w = stop-at C (r ∷ p) (edge (r ∷ p)) t n b e in
+          let l : edge p < t = stop-after C (r ∷ p) (edge p) t n b (verdict-same C r p (edge p) (omega arith) ∙ z) (w .1) in
+          ap (λ x. cond x (movedOf C (summary C p) r (turnIn C (summary C p) r .shared)) (stoppedOf (summary C p) r (said (stop t n b)))) (said-broken t n b)
+          ∙ stopped C r p p (said (stop t n b)) noVerdict
+          ∙ ap (λ q. frozen C (r ∷ p) q (said (stop t n b))) (sym (up-to-before r p t l (w .0)))
+
+  stop-next :
+      (r : Record) (p : Past) (t n : ℕ) (b : Break) → 1 ≤ r .step → verdictTo C p (edge p) ≡ stop t n b
+      → stepOf C (carriedBy C (stop t n b) p) r ≡ carriedBy C (stop t n b) (r ∷ p)
+  unfolding stepOf carriedBy frozen stoppedOf
+  stop-next r p t n b far e =
+      let w = stop-at C p (edge p) t n b e in
+      let v = said (stop t n b) in
+      rw (said-broken t n b) (stopped C r p (upTo (t - 1) p) v v ∙ ap (λ q. frozen C (r ∷ p) q v) (sym (up-to-skip (t - 1) r p (omega arith))))
+
+  pub step-carried : (r : Record) (p : Past) → 1 ≤ r .step → Apart p → stepOf C (carried C p) r ≡ carried C (r ∷ p)
+  step-carried r p far apart = go (verdictTo C p (edge p)) refl
+    where
+      go : (v : Outcome) → verdictTo C p (edge p) ≡ v → stepOf C (carriedBy C v p) r ≡ carried C (r ∷ p)
+      go clean z = ap (λ s. stepOf C s r) (carried-clean C p) ∙ clean-next r p far apart z (verdictTo C (r ∷ p) (edge (r ∷ p))) refl
+      go (stop t n b) z =
+          stop-next r p t n b far z
+          ∙ ap (λ v. carriedBy C v (r ∷ p))
+          (sym (stays-to C (r ∷ p) (edge p) (edge (r ∷ p)) t n b (omega arith) (verdict-same C r p (edge p) (omega arith) ∙ z)))
+
+  pub fold-carried : (rs : List Record) (p : Past) → Steps rs → Apart p → foldOf C (carried C p) rs ≡ carried C (reverseAux rs p)
+  fold-carried [] p s apart = refl
+  fold-carried (r ∷ rs) p s apart =
+      ap (λ x. foldOf C x rs) (step-carried r p (s .0) apart) ∙ fold-carried rs (r ∷ p) (s .1) (s .0, apart)
+
+-- before the first record
+pub start-carried : (C : Chip) → startOf (C .header) ≡ carried C []
+unfolding verdictTo
+start-carried C = sym (summary-fresh C) ∙ sym (carried-clean C [])
+
+-- the verdict so far
+pub so-far-carried : (C : Chip) (p : Past) → soFar (carried C p) ≡ verdictSoFar C p
+unfolding soFar carriedBy frozen
+so-far-carried C p = go (verdictTo C p (edge p))
+  where
+    go : (v : Outcome) → cond (isClean (said v)) (cleanAt (number p) (edge p)) (said v) ≡ shown v (number p) (edge p)
+    go clean = refl
+    go (stop t n Fine) = refl
+    go (stop t n (Broken k x m f)) = refl
