@@ -18,3 +18,5 @@ pub mod Edges
 pub mod Turn
 pub mod Whole
 pub mod Closing
+pub mod Openings
+pub mod Cutting
