@@ -20,3 +20,6 @@ pub mod Whole
 pub mod Closing
 pub mod Openings
 pub mod Cutting
+pub mod Section
+pub mod Sections
+pub mod Cuts
