@@ -4,7 +4,7 @@
 use Prim.Native.Nat.{ℕ, _/_, _%_}
 use native.Mathlib.Omega.{arith}
 use mathlib.Core.Path.{_≡_, refl, sym, ap, _∙_}
-use mathlib.Core.Bool.{true, cond}
+use mathlib.Core.Bool.{cond}
 use mathlib.Core.List.{List, [], _∷_, _++_}
 use lib.ListN.{length, length-append}
 use borrow.Author.Tests.{eq-eqb, ne-eqb}
@@ -15,7 +15,6 @@ use Rattle.records.specs.Record.{records}
 use Rattle.chip.specs.Chip.{chipOf}
 use Rattle.judge.specs.declared.State.{State}
 use Rattle.judge.specs.Calls.{openOf, hasZero, sectionOf}
-use Rattle.judge.specs.Ranges.{inRange}
 use Rattle.rules.proofs.Facts.{Sound}
 use Rattle.rules.proofs.Whole.{carried}
 use Rattle.rules.proofs.Openings.{taken-sound}
@@ -72,31 +71,29 @@ cut-fits bs xs ys u v f =
       },
     )
 
-module _ (open-in-range : (bytes : List ℕ) → openOf bytes .refused ≡ 0 → inRange (openOf bytes .state) ≡ true)
-    (section-in-range : (s : State) (bs : List ℕ) → inRange s ≡ true → inRange (sectionOf s bs .state) ≡ true) where
-  goes :
-      (h : Header) → Sound (chipOf h) → (os : List Offer) (bs : List ℕ) (s : State) → Stands h bs s → Even os → Fits (length bs / 6) (whole os)
-      → Spare s os → Goes s os × (taken s (offered os) ≡ whole os)
-  goes h S [] bs s a even f spare = (tt, refl)
-  goes h S (part xs ∷ os) bs s a even f spare =
-      let w = cut-fits bs xs (whole os) (a .sixes) (even .0) f in
-      let r = refused-is h S bs s a xs ∙ fits-taken (length bs / 6) xs (w .0) in
-      let ih = goes h S os (bs ++ xs) (sectionOf s xs .state) (stands-more open-in-range section-in-range h S bs s a xs (w .0)) (even .1) (w .1) spare in
-      ((r, ih .0), λ i. cond (eq-eqb (sectionOf s xs .refused) 0 r i) xs [] ++ ih .1 i)
-  goes h S (other xs ∷ os) bs s a even f spare =
-      let b = stands-same open-in-range section-in-range h S bs s a xs (λ e. spare .0 (refused-is h S bs s a xs ∙ e)) in
-      let ih = goes h S os bs (sectionOf s xs .state) b even f (spare .1) in
-      (ih .0, λ i. cond (ne-eqb (sectionOf s xs .refused) 0 (spare .0) i) xs [] ++ ih .1 i)
+goes :
+    (h : Header) → Sound (chipOf h) → (os : List Offer) (bs : List ℕ) (s : State) → Stands h bs s → Even os → Fits (length bs / 6) (whole os)
+    → Spare s os → Goes s os × (taken s (offered os) ≡ whole os)
+goes h S [] bs s a even f spare = (tt, refl)
+goes h S (part xs ∷ os) bs s a even f spare =
+    let w = cut-fits bs xs (whole os) (a .sixes) (even .0) f in
+    let r = refused-is h S bs s a xs ∙ fits-taken (length bs / 6) xs (w .0) in
+    let ih = goes h S os (bs ++ xs) (sectionOf s xs .state) (stands-more h S bs s a xs (w .0)) (even .1) (w .1) spare in
+    ((r, ih .0), λ i. cond (eq-eqb (sectionOf s xs .refused) 0 r i) xs [] ++ ih .1 i)
+goes h S (other xs ∷ os) bs s a even f spare =
+    let b = stands-same h S bs s a xs (λ e. spare .0 (refused-is h S bs s a xs ∙ e)) in
+    let ih = goes h S os bs (sectionOf s xs .state) b even f (spare .1) in
+    (ih .0, λ i. cond (ne-eqb (sectionOf s xs .refused) 0 (spare .0) i) xs [] ++ ih .1 i)
 
-  module _ (header : List ℕ) (h : Header) (e : parsedOf header ≡ Taken h) (os : List Offer) (even : Even os) (f : Fits 0 (whole os))
-      (spare : Spare (openOf header .state) os) where
-    pub every-cut : Goes (openOf header .state) os × (taken (openOf header .state) (offered os) ≡ whole os)
-    every-cut = goes h (taken-sound header h e) os [] (openOf header .state) (stands open-in-range section-in-range header h e []) even f spare
+module _ (header : List ℕ) (h : Header) (e : parsedOf header ≡ Taken h) (os : List Offer) (even : Even os) (f : Fits 0 (whole os))
+    (spare : Spare (openOf header .state) os) where
+  pub every-cut : Goes (openOf header .state) os × (taken (openOf header .state) (offered os) ≡ whole os)
+  every-cut = goes h (taken-sound header h e) os [] (openOf header .state) (stands header h e []) even f spare
 
-    -- the state is that of the recording in one section
-    pub cut-same : run (openOf header .state) (offered os) ≡ sectionOf (openOf header .state) (whole os) .state
-    cut-same =
-        stands open-in-range section-in-range header h e (offered os) .state
-        ∙ ap (λ bs. carried (chipOf h) (recording bs)) (every-cut .1)
-        ∙ sym (stands-more open-in-range section-in-range h (taken-sound header h e) [] (openOf header .state)
-        (stands open-in-range section-in-range header h e []) (whole os) f .state)
+  -- the state is that of the recording in one section
+  pub cut-same : run (openOf header .state) (offered os) ≡ sectionOf (openOf header .state) (whole os) .state
+  cut-same =
+      stands header h e (offered os) .state
+      ∙ ap (λ bs. carried (chipOf h) (recording bs)) (every-cut .1)
+      ∙ sym (stands-more h (taken-sound header h e) [] (openOf header .state)
+      (stands header h e []) (whole os) f .state)

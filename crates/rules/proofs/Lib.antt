@@ -20,6 +20,7 @@ pub mod Whole
 pub mod Closing
 pub mod Openings
 pub mod Cutting
+pub mod Never
 pub mod Section
 pub mod Sections
 pub mod Cuts

@@ -44,18 +44,23 @@ fields-taken bytes h = go (eqb (length bytes) 6) h
     go true e = e
     go false e = absurd (omega arith)
 
-taken-period : (bytes : List ℕ) (h : Header) → parsedOf bytes ≡ Taken h → (1070 ≤ h .period .ps) × (h .period .ps ≤ 3300)
+taken-is : (bytes : List ℕ) (h : Header) → parsedOf bytes ≡ Taken h → (headerRefusal bytes ≡ 0) × (headerOf (headerWord bytes) ≡ h)
 unfolding parsedOf
-taken-period bytes h e = go (eqb (headerRefusal bytes) 0) refl e
+taken-is bytes h e = go (eqb (headerRefusal bytes) 0) refl e
   where
     go :
         (x : Bool) → eqb (headerRefusal bytes) 0 ≡ x → cond x (Taken (headerOf (headerWord bytes))) (Refused (headerRefusal bytes)) ≡ Taken h
-        → (1070 ≤ h .period .ps) × (h .period .ps ≤ 3300)
-    go true q e =
-        let s : headerOf (headerWord bytes) ≡ h = cc in
-        subst (λ (x : Header). (1070 ≤ x .period .ps) × (x .period .ps ≤ 3300)) s
-        (in-period (headerWord bytes) (fields-taken bytes (eqb-true _ _ q)))
+        → (headerRefusal bytes ≡ 0) × (headerOf (headerWord bytes) ≡ h)
+    go true q e = (eqb-true _ _ q, cc)
     go false q e = let z : _≡_ {A = ℕ} 0 1 = cc in absurd (omega arith)
+
+pub taken-period : (bytes : List ℕ) (h : Header) → parsedOf bytes ≡ Taken h → (1070 ≤ h .period .ps) × (h .period .ps ≤ 3300)
+taken-period bytes h e =
+    let w = taken-is bytes h e in
+    subst (λ (x : Header). (1070 ≤ x .period .ps) × (x .period .ps ≤ 3300)) (w .1) (in-period (headerWord bytes) (fields-taken bytes (w .0)))
+
+pub taken-bin : (bytes : List ℕ) (h : Header) → parsedOf bytes ≡ Taken h → h .bin ≤ 3
+taken-bin bytes h e = subst (λ (x : Header). x .bin ≤ 3) (taken-is bytes h e .1) (omega arith)
 
 pub taken-sound : (bytes : List ℕ) (h : Header) → parsedOf bytes ≡ Taken h → Sound (chipOf h)
 taken-sound bytes h e = let w = taken-period bytes h e in sound h (w .0) (w .1)

@@ -4,7 +4,7 @@ use Prim.Native.Nat.{ℕ, _/_, _≤_}
 use native.Mathlib.Omega.{arith}
 use native.Mathlib.Decide.{ℕ-discrete}
 use mathlib.Core.Path.{_≡_, refl, sym, ap, _∙_, subst}
-use mathlib.Core.Bool.{Bool, true, cond, _||_}
+use mathlib.Core.Bool.{Bool, cond, _||_}
 use mathlib.Core.List.{List, [], _∷_, _++_, append-nil, append-assoc}
 use lib.Dec.{eqb, ltb}
 use lib.ListN.{length, length-append}
@@ -18,7 +18,7 @@ use Rattle.judge.specs.declared.State.{State}
 use Rattle.judge.specs.declared.Taken.{Taken as Answer}
 use Rattle.judge.specs.declared.Opened.{Opened}
 use Rattle.judge.specs.Step.{soFar}
-use Rattle.judge.specs.Ranges.{lastEdge, inRange}
+use Rattle.judge.specs.Ranges.{lastEdge}
 use Rattle.judge.specs.Calls.{startOf, openOf, sectionOf, notClosed, closeOf}
 use Rattle.rules.specs.Past.{edge}
 use Rattle.rules.specs.Verdict.{verdictSoFar, Apart}
@@ -27,6 +27,7 @@ use Rattle.rules.proofs.Whole.{carried, start-carried}
 use Rattle.rules.proofs.Closing.{answer}
 use Rattle.rules.proofs.Openings.{taken-sound, opened-state}
 use Rattle.rules.proofs.Cutting.{steps, apart-all}
+use Rattle.rules.proofs.Never.{open-in-range, section-in-range}
 use Rattle.rules.proofs.Section.{refusal, Fits, fits, recording, recording-append, Stands, so-far-is, close-is, section-fits, section-refused, refused-is, verdict-is}
 
 -- the state after the sections, offered in turn
@@ -66,67 +67,65 @@ judges h S bs s a = record {
 abbrev joined : (bs xs : List ℕ) → List (List ℕ) → State → Bool → List ℕ
 joined bs xs xss s x = bs ++ (cond x xs [] ++ taken (sectionOf s xs .state) xss)
 
-module _ (open-in-range : (bytes : List ℕ) → openOf bytes .refused ≡ 0 → inRange (openOf bytes .state) ≡ true)
-    (section-in-range : (s : State) (bs : List ℕ) → inRange s ≡ true → inRange (sectionOf s bs .state) ≡ true) where
-  module _ (h : Header) (S : Sound (chipOf h)) (bs : List ℕ) (s : State) (a : Stands h bs s) (xs : List ℕ) where
-    pub stands-more : Fits (length bs / 6) xs → Stands h (bs ++ xs) (sectionOf s xs .state)
-    stands-more f = record {
-      sixes = omega (arith, length-append bs xs, a .sixes, f .sixes);
-      apart =
-          subst Apart (recording-append bs xs (a .sixes))
-          (apart-all (records xs) (recording bs) (steps (records xs) (f .steps)) (a .apart));
-      state = ap (λ (r : Answer). r .state) (section-fits h S bs s a xs f);
-      range = section-in-range s xs (a .range);
-    }
+module _ (h : Header) (S : Sound (chipOf h)) (bs : List ℕ) (s : State) (a : Stands h bs s) (xs : List ℕ) where
+  pub stands-more : Fits (length bs / 6) xs → Stands h (bs ++ xs) (sectionOf s xs .state)
+  stands-more f = record {
+    sixes = omega (arith, length-append bs xs, a .sixes, f .sixes);
+    apart =
+        subst Apart (recording-append bs xs (a .sixes))
+        (apart-all (records xs) (recording bs) (steps (records xs) (f .steps)) (a .apart));
+    state = ap (λ (r : Answer). r .state) (section-fits h S bs s a xs f);
+    range = section-in-range s xs (a .range);
+  }
 
-    pub stands-same : (refusal (length bs / 6) xs ≡ 0 → ⊥) → Stands h bs (sectionOf s xs .state)
-    stands-same n = subst (Stands h bs) (sym (ap (λ (r : Answer). r .state) (section-refused h S bs s a xs n))) a
+  pub stands-same : (refusal (length bs / 6) xs ≡ 0 → ⊥) → Stands h bs (sectionOf s xs .state)
+  stands-same n = subst (Stands h bs) (sym (ap (λ (r : Answer). r .state) (section-refused h S bs s a xs n))) a
 
-  module _ (h : Header) (S : Sound (chipOf h)) where
-    stands-run : (xss : List (List ℕ)) (bs : List ℕ) (s : State) → Stands h bs s → Stands h (bs ++ taken s xss) (run s xss)
-    stands-run [] bs s a = rw (append-nil bs) a
-    stands-run (xs ∷ xss) bs s a = elim (ℕ-discrete (refusal (length bs / 6) xs) 0) [
-      | yes q ↦
-          subst (λ ys. Stands h ys (run (sectionOf s xs .state) xss))
-          (append-assoc bs xs (taken (sectionOf s xs .state) xss) ∙ ap (joined bs xs xss s) (sym (eq-eqb _ _ (refused-is h S bs s a xs ∙ q))))
-          (stands-run xss (bs ++ xs) (sectionOf s xs .state) (stands-more h S bs s a xs (fits (length bs / 6) xs q)))
-      | no q ↦
-          subst (λ ys. Stands h ys (run (sectionOf s xs .state) xss))
-          (ap (joined bs xs xss s) (sym (ne-eqb _ _ (λ e. q (sym (refused-is h S bs s a xs) ∙ e)))))
-          (stands-run xss bs (sectionOf s xs .state) (stands-same h S bs s a xs q))
-    ]
+module _ (h : Header) (S : Sound (chipOf h)) where
+  stands-run : (xss : List (List ℕ)) (bs : List ℕ) (s : State) → Stands h bs s → Stands h (bs ++ taken s xss) (run s xss)
+  stands-run [] bs s a = rw (append-nil bs) a
+  stands-run (xs ∷ xss) bs s a = elim (ℕ-discrete (refusal (length bs / 6) xs) 0) [
+    | yes q ↦
+        subst (λ ys. Stands h ys (run (sectionOf s xs .state) xss))
+        (append-assoc bs xs (taken (sectionOf s xs .state) xss) ∙ ap (joined bs xs xss s) (sym (eq-eqb _ _ (refused-is h S bs s a xs ∙ q))))
+        (stands-run xss (bs ++ xs) (sectionOf s xs .state) (stands-more h S bs s a xs (fits (length bs / 6) xs q)))
+    | no q ↦
+        subst (λ ys. Stands h ys (run (sectionOf s xs .state) xss))
+        (ap (joined bs xs xss s) (sym (ne-eqb _ _ (λ e. q (sym (refused-is h S bs s a xs) ∙ e)))))
+        (stands-run xss bs (sectionOf s xs .state) (stands-same h S bs s a xs q))
+  ]
 
-  -- the state and the bytes after the sections xss, offered after the header bytes
-  pub stands : (header : List ℕ) (h : Header) → parsedOf header ≡ Taken h → (xss : List (List ℕ))
-      → Stands h (taken (openOf header .state) xss) (run (openOf header .state) xss)
-  stands header h e xss =
-      stands-run h (taken-sound header h e) xss [] (openOf header .state) (record {
-        sixes = refl;
-        apart = tt;
-        state = ap (λ (o : Opened). o .state) (opened-state header h e) ∙ start-is h;
-        range = open-in-range header (ap (λ (o : Opened). o .refused) (opened-state header h e));
-      })
+-- the state and the bytes after the sections xss, offered after the header bytes
+pub stands : (header : List ℕ) (h : Header) → parsedOf header ≡ Taken h → (xss : List (List ℕ))
+    → Stands h (taken (openOf header .state) xss) (run (openOf header .state) xss)
+stands header h e xss =
+    stands-run h (taken-sound header h e) xss [] (openOf header .state) (record {
+      sixes = refl;
+      apart = tt;
+      state = ap (λ (o : Opened). o .state) (opened-state header h e) ∙ start-is h;
+      range = open-in-range header (ap (λ (o : Opened). o .refused) (opened-state header h e));
+    })
 
-  -- however the sections are cut, and whichever are refused
-  pub sections-judged :
-      (header : List ℕ) (h : Header) → parsedOf header ≡ Taken h → (xss : List (List ℕ))
-      → Judges h (taken (openOf header .state) xss) (run (openOf header .state) xss)
-  sections-judged header h e xss =
-      judges h (taken-sound header h e) (taken (openOf header .state) xss) (run (openOf header .state) xss) (stands header h e xss)
+-- however the sections are cut, and whichever are refused
+pub sections-judged :
+    (header : List ℕ) (h : Header) → parsedOf header ≡ Taken h → (xss : List (List ℕ))
+    → Judges h (taken (openOf header .state) xss) (run (openOf header .state) xss)
+sections-judged header h e xss =
+    judges h (taken-sound header h e) (taken (openOf header .state) xss) (run (openOf header .state) xss) (stands header h e xss)
 
-  -- a whole recording in one go
-  pub judged-whole :
-      (header : List ℕ) (h : Header) → parsedOf header ≡ Taken h → (bs : List ℕ) → Fits 0 bs → (end : ℕ) → edge (recording bs) ≤ end
-      → end ≤ lastEdge → closeOf (sectionOf (startOf h) bs .state) end ≡ answer (chipOf h) (recording bs) end
-  judged-whole header h e bs f end l m =
-      close-is h S bs (sectionOf (startOf h) bs .state) after end
-      ∙ rw (le-ltb end (edge (recording bs)) l, le-ltb lastEdge end m)
-    where
-      S : Sound (chipOf h)
-      S = taken-sound header h e
+-- a whole recording in one go
+pub judged-whole :
+    (header : List ℕ) (h : Header) → parsedOf header ≡ Taken h → (bs : List ℕ) → Fits 0 bs → (end : ℕ) → edge (recording bs) ≤ end
+    → end ≤ lastEdge → closeOf (sectionOf (startOf h) bs .state) end ≡ answer (chipOf h) (recording bs) end
+judged-whole header h e bs f end l m =
+    close-is h S bs (sectionOf (startOf h) bs .state) after end
+    ∙ rw (le-ltb end (edge (recording bs)) l, le-ltb lastEdge end m)
+  where
+    S : Sound (chipOf h)
+    S = taken-sound header h e
 
-      start : Stands h [] (startOf h)
-      start = subst (Stands h []) (ap (λ (o : Opened). o .state) (opened-state header h e)) (stands header h e [])
+    start : Stands h [] (startOf h)
+    start = subst (Stands h []) (ap (λ (o : Opened). o .state) (opened-state header h e)) (stands header h e [])
 
-      after : Stands h bs (sectionOf (startOf h) bs .state)
-      after = stands-more h S [] (startOf h) start bs f
+    after : Stands h bs (sectionOf (startOf h) bs .state)
+    after = stands-more h S [] (startOf h) start bs f
