@@ -87,11 +87,11 @@ module _ (h : Header) (S : Sound (chipOf h)) (bs : List ℕ) (s : State) (a : St
   unfolding carriedBy frozen chipOf
   header-is = ap (λ (x : State). x .header) (a .state)
 
-  edge-is : s .edge ≡ edge (recording bs)
+  pub edge-is : s .edge ≡ edge (recording bs)
   unfolding carriedBy frozen
   edge-is = ap (λ (x : State). x .edge) (a .state)
 
-  count-is : s .count ≡ length bs / 6
+  pub count-is : s .count ≡ length bs / 6
   unfolding carriedBy frozen
   count-is = ap (λ (x : State). x .count) (a .state) ∙ number-all (records bs) [] ∙ omega (arith, length-records bs (a .sixes))
 

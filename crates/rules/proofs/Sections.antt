@@ -17,18 +17,19 @@ use Rattle.chip.specs.Chip.{chipOf}
 use Rattle.judge.specs.declared.State.{State}
 use Rattle.judge.specs.declared.Taken.{Taken as Answer}
 use Rattle.judge.specs.declared.Opened.{Opened}
+use Rattle.judge.specs.declared.Closed.{Closed}
 use Rattle.judge.specs.Step.{soFar}
 use Rattle.judge.specs.Ranges.{lastEdge}
 use Rattle.judge.specs.Calls.{startOf, openOf, sectionOf, notClosed, closeOf}
 use Rattle.rules.specs.Past.{edge}
-use Rattle.rules.specs.Verdict.{verdictSoFar, Apart}
+use Rattle.rules.specs.Verdict.{shownVerdict, verdictSoFar, Apart}
 use Rattle.rules.proofs.Facts.{Sound}
 use Rattle.rules.proofs.Whole.{carried, start-carried}
 use Rattle.rules.proofs.Closing.{answer}
 use Rattle.rules.proofs.Openings.{taken-sound, opened-state}
 use Rattle.rules.proofs.Cutting.{steps, apart-all}
 use Rattle.rules.proofs.Never.{open-in-range, section-in-range}
-use Rattle.rules.proofs.Section.{refusal, Fits, fits, recording, recording-append, Stands, so-far-is, close-is, section-fits, section-refused, refused-is, verdict-is}
+use Rattle.rules.proofs.Section.{refusal, Fits, fits, recording, recording-append, Stands, edge-is, count-is, so-far-is, close-is, section-fits, section-refused, refused-is, verdict-is}
 
 -- the state after the sections, offered in turn
 abbrev pub run : State → List (List ℕ) → State
@@ -44,9 +45,12 @@ start-is : (h : Header) → startOf h ≡ carried (chipOf h) []
 unfolding chipOf
 start-is h = start-carried (chipOf h)
 
--- What is to be had of a state, by the rules, where the records so far are those of the bytes bs. Closing answers in one equation: the
--- refusal 8, or the verdict, the banks, the registers and the debt.
+-- What is to be had of a state, by the rules, where the records so far are those of the bytes bs: what it counts, the verdict so far,
+-- which sections it refuses, the verdict after one that it takes, and closing, in one equation: the refusal 8, or the verdict, the
+-- banks, the registers and the debt. 17 is none of the answers.
 pub record Judges (h : Header) (bs : List ℕ) (s : State) : Type 0 where
+  pub counted : s .count ≡ length bs / 6
+  pub last : s .edge ≡ edge (recording bs)
   pub so-far : soFar s ≡ verdictSoFar (chipOf h) (recording bs)
   pub refused : (xs : List ℕ) → sectionOf s xs .refused ≡ refusal (length bs / 6) xs
   pub unaltered : (xs : List ℕ) → (sectionOf s xs .refused ≡ 0 → ⊥) → sectionOf s xs .state ≡ s
@@ -56,6 +60,8 @@ pub record Judges (h : Header) (bs : List ℕ) (s : State) : Type 0 where
 
 judges : (h : Header) → Sound (chipOf h) → (bs : List ℕ) (s : State) → Stands h bs s → Judges h bs s
 judges h S bs s a = record {
+  counted = count-is h S bs s a;
+  last = edge-is h S bs s a;
   so-far = so-far-is h S bs s a;
   refused = refused-is h S bs s a;
   unaltered = λ xs n. ap (λ (r : Answer). r .state) (section-refused h S bs s a xs (λ e. n (refused-is h S bs s a xs ∙ e)));
@@ -129,3 +135,13 @@ judged-whole header h e bs f end l m =
 
     after : Stands h bs (sectionOf (startOf h) bs .state)
     after = stands-more h S [] (startOf h) start bs f
+
+pub judged-verdict :
+    (header : List ℕ) (h : Header) → parsedOf header ≡ Taken h → (bs : List ℕ) → Fits 0 bs → (end : ℕ) → edge (recording bs) ≤ end
+    → end ≤ lastEdge
+    → (closeOf (sectionOf (startOf h) bs .state) end .refused ≡ 0)
+    × (closeOf (sectionOf (startOf h) bs .state) end .verdict ≡ shownVerdict (chipOf h) (recording bs) end)
+unfolding answer
+judged-verdict header h e bs f end l m =
+    let w = judged-whole header h e bs f end l m in
+    (ap (λ (c : Closed). c .refused) w, ap (λ (c : Closed). c .verdict) w)
