@@ -3,7 +3,7 @@
 -- Assumes nothing.
 use Prim.Native.Nat.{ℕ, _/_, _%_}
 use native.Mathlib.Omega.{arith}
-use mathlib.Core.Path.{_≡_, refl, sym, ap, _∙_}
+use mathlib.Core.Path.{_≡_, refl, sym, ap, _∙_, subst}
 use mathlib.Core.Bool.{cond}
 use mathlib.Core.List.{List, [], _∷_, _++_}
 use lib.ListN.{length, length-append}
@@ -20,7 +20,7 @@ use Rattle.rules.proofs.Whole.{carried}
 use Rattle.rules.proofs.Openings.{taken-sound}
 use Rattle.rules.proofs.Cutting.{records-append, zero-append}
 use Rattle.rules.proofs.Section.{recording, Fits, fits-taken, Stands, refused-is}
-use Rattle.rules.proofs.Sections.{run, taken, stands-more, stands-same, stands}
+use Rattle.rules.proofs.Sections.{run, taken, stands-more, stands-same, stands, Judges, sections-judged}
 
 -- a section that is offered: a part of the recording, or another
 pub data Offer : Type 0 where
@@ -87,6 +87,7 @@ goes h S (other xs ∷ os) bs s a even f spare =
 
 module _ (header : List ℕ) (h : Header) (e : parsedOf header ≡ Taken h) (os : List Offer) (even : Even os) (f : Fits 0 (whole os))
     (spare : Spare (openOf header .state) os) where
+  -- no part is refused, and what is taken is the recording
   pub every-cut : Goes (openOf header .state) os × (taken (openOf header .state) (offered os) ≡ whole os)
   every-cut = goes h (taken-sound header h e) os [] (openOf header .state) (stands header h e []) even f spare
 
@@ -97,3 +98,8 @@ module _ (header : List ℕ) (h : Header) (e : parsedOf header ≡ Taken h) (os 
       ∙ ap (λ bs. carried (chipOf h) (recording bs)) (every-cut .1)
       ∙ sym (stands-more h (taken-sound header h e) [] (openOf header .state)
       (stands header h e []) (whole os) f .state)
+
+  -- and so are verdict, banks, registers and debt, at every end edge
+  pub cut-judged : Judges h (whole os) (run (openOf header .state) (offered os))
+  cut-judged =
+      subst (λ bs. Judges h bs (run (openOf header .state) (offered os))) (every-cut .1) (sections-judged header h e (offered os))

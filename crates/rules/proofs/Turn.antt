@@ -60,7 +60,7 @@ sooner-first x y = go (leb (x .at) (y .at)) refl
     go true h = omega arith
     go false h = omega (arith, leb-false)
 
--- the first deadline x before the edge e, else what is said of e
+-- the deadline x, if it passes before the edge e
 abbrev passing : Late → ℕ → Outcome
 passing x e = cond (ltb (x .at) e) (stop (x .at) 0 (why x)) clean
 
