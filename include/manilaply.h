@@ -28,6 +28,7 @@
 typedef __UINT8_TYPE__ uint8_t;
 typedef __UINT16_TYPE__ uint16_t;
 typedef __UINT32_TYPE__ uint32_t;
+typedef __UINT64_TYPE__ uint64_t;
 typedef __SIZE_TYPE__ size_t;
 #else
 #include <stddef.h>
@@ -37,6 +38,29 @@ typedef __SIZE_TYPE__ size_t;
 #ifdef __cplusplus
 extern "C" {
 #endif
+
+/* The verdict on a whole recording: six header bytes, then six bytes a record, closed at the edge end.
+ *
+ * Writes 20 bytes to the start of out, numbers most significant byte first:
+ *   outcome 1 byte (0 clean, 1 broken), rule 1, record 3, partner 3, edge 6, needed 3, found 3
+ * Clean: record is the number of records, edge is end, the rest 0. Broken: the first broken edge and
+ * the lowest rule broken there; record is the number of the record at that edge (from 1; 0: none),
+ * partner that of the earlier record that proves it (0: none); needed and found are clocks. Bytes of
+ * out after these keep their values.
+ *
+ * Answers 0, or the first of
+ *    9   out_len is below 20
+ *    1   recording_len is below 6
+ *    2   the header's edition is not 1
+ *    3   a zero field of the header is not zero
+ *    4   the period is under the bin's least, or over 3300 ps
+ *    5   recording_len less 6 is not a multiple of 6
+ *    7   there are more than 1,048,576 records
+ *    6   some record's step is 0
+ *    8   end is before the last record's edge, or above 2^44
+ */
+uint32_t manilaply_judge(const uint8_t *recording, size_t recording_len, uint64_t end, uint8_t *out,
+                         size_t out_len);
 
 /* What a mode register's code says under a recording's header.
  *

@@ -1,7 +1,11 @@
 -- The bytes of a verdict and the fields of a bank: 01, "The recording", below the table of refusals.
 -- Assumes nothing.
 use Prim.Native.Nat.{ℕ, _/_, _%_}
-use mathlib.Core.List.{List, [], _∷_, _++_}
+use mathlib.Core.Bool.{cond}
+use mathlib.Core.List.{List, [], _∷_}
+use lib.Dec.{ltb}
+use lib.ListN.{length}
+use Rattle.laws.specs.Lent.{Wrote}
 use Rattle.answers.specs.declared.Bank.{Bank}
 use Rattle.answers.specs.declared.Bank.the-variants.{Idle, Open, Closing}
 use Rattle.answers.specs.declared.Shown.{Shown}
@@ -21,6 +25,14 @@ bytes6 n rest = n / 1099511627776 % 256 ∷ n / 4294967296 % 256 ∷ n / 1677721
 unfoldable pub verdictBytes : Verdict → List ℕ
 verdictBytes v =
     bytes1 (v .outcome) (bytes1 (v .rule) (bytes3 (v .number) (bytes3 (v .partner) (bytes6 (v .edge) (bytes3 (v .needed) (bytes3 (v .found) []))))))
+
+-- | 9 | lent buffer too short |
+abbrev pub roomFor20 : (room : ℕ) → ℕ
+roomFor20 room = cond (ltb room 20) 9 0
+
+-- "A verdict is written in 20 bytes .. Later bytes of the buffer keep their values"
+abbrev pub Reported : Verdict → (before : List ℕ) (r : ℕ) (after : List ℕ) → Type 0
+Reported v before r after = Wrote (roomFor20 (length before)) (verdictBytes v) before r after
 
 -- "A bank is idle, open or closing, with row (A15..A0) and ACT edge unless idle": 0, 1, 2 for the three
 abbrev pub shownOf : Bank → Shown

@@ -1,6 +1,7 @@
 // What a judge answers: what a record or an edge breaks, a bank, a verdict with its 20 bytes.
 mod report;
 
+pub use report::put_verdict;
 pub use report::verdict_bytes;
 
 // What a record or an edge breaks: the rule, the number of the earlier record (0: none), the clocks needed and found.

@@ -1,7 +1,19 @@
 // The 20 bytes of a verdict.
 use crate::Verdict;
 ghost use mathlib.Core.Path.{_≡_};
-ghost use Rattle.answers.specs.Answer.{verdictBytes};
+ghost use Rattle.answers.specs.Answer.{verdictBytes, Reported};
+
+// Check 9; then the 20 bytes into the lent slice. Later bytes keep their values; a refusal writes nothing.
+pub fn put_verdict(v: Verdict, out: &mut [u8]) -> u32
+    ensures { λ r. ⌜ Reported v (now (out .entry)) r (now (out .exit)) ⌝ }
+{
+    if out.len() < 20 {
+        return 9;
+    }
+    let twenty = verdict_bytes(v);
+    bytes::copy(&twenty, out);
+    0
+}
 
 pub fn verdict_bytes(v: Verdict) -> [u8; 20]
     ensures { λ r. ⌜ r ≡ verdictBytes v ⌝ }

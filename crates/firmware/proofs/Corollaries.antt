@@ -7,7 +7,21 @@ use lib.ListN.{length, drop}
 use Rattle.laws.proofs.Lent as lent
 use Rattle.bursts.proofs.Answers.{length-order}
 use Rattle.registers.proofs.Answers.{six}
-use Rattle.firmware.specs.Calls.{Register, Burst}
+use Rattle.answers.proofs.Answers.{twenty}
+use Rattle.firmware.specs.Calls.{Judge, Register, Burst}
+
+module _ (recording : List ℕ) (end : ℕ) (before : List ℕ) where
+  module _ (r : ℕ) (after : List ℕ) (call : Judge recording end before r after) where
+    pub judge-refused-keeps-all : (r ≡ 0 → ⊥) → after ≡ before
+    judge-refused-keeps-all = lent.refused-keeps-all _ _ _ r after call
+
+    pub judge-later-bytes-kept : drop 20 after ≡ drop 20 before
+    judge-later-bytes-kept = rw twenty at (lent.later-bytes-kept _ _ _ r after call)
+
+  pub judge-unique :
+      {r r′ : ℕ} {after after′ : List ℕ} → Judge recording end before r after → Judge recording end before r′ after′
+      → (r ≡ r′) × (after ≡ after′)
+  judge-unique one other = lent.same-answer one other
 
 module _ (header : List ℕ) (number code : ℕ) (before : List ℕ) where
   module _ (r : ℕ) (after : List ℕ) (call : Register header number code before r after) where

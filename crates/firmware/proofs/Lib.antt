@@ -1,1 +1,2 @@
+pub mod Wholes
 pub mod Corollaries

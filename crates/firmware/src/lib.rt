@@ -1,6 +1,25 @@
 // What the logger's C firmware calls, with numbers and byte slices: 0 is success, any other number 01's refusal.
 // include/manilaply.h declares these for C.
-ghost use Rattle.firmware.specs.Calls.{Register, Burst};
+mod whole;
+
+use whole::judged;
+ghost use Rattle.firmware.specs.Calls.{Judge, Register, Burst};
+
+// A whole recording, header and records, closed at the edge end: the 20 bytes of the verdict in out.
+#[no_mangle]
+pub extern "C" fn manilaply_judge(recording: &[u8], end: u64, out: &mut [u8]) -> u32
+    ensures { λ r. ⌜ Judge (now (recording .entry)) end (now (out .entry)) r (now (out .exit)) ⌝ }
+{
+    if out.len() < 20 {
+        return 9;
+    }
+    let whole = judged(recording, end);
+    if whole.refused != 0 {
+        return whole.refused;
+    }
+    let verdict = whole.verdict;
+    answers::put_verdict(verdict, out)
+}
 
 // A header, a register's number and a code: six bytes in out, as 01's "Register reading" says.
 #[no_mangle]

@@ -12,9 +12,8 @@ use lib.ListN.{getD, set}
 use borrow.Author.Tests.{leb-true, ltb-true, ltb-false, leb-false, eqb-true}
 use Rattle.laws.specs.Eight.{table}
 use Rattle.laws.proofs.Eight.{getD-table, at-set}
-use Rattle.units.specs.Round.{down}
-use Rattle.units.proofs.Rounding.{down-greatest}
 use Rattle.header.specs.declared.Header.{Header}
+use Rattle.header.specs.Counts.{tREFI}
 use Rattle.header.proofs.Bounds.{bounds}
 use Rattle.answers.specs.declared.Break.{Break}
 use Rattle.answers.specs.declared.Break.the-variants.{Fine, Broken}
@@ -62,8 +61,7 @@ banks-at ks (suc n) h b l =
 -- what the test tells
 pub record Tested (s : State) : Type 0 where
   pub bin : s .header .bin ≤ 3
-  pub some : 1 ≤ s .header .period .ps
-  pub most : s .header .period .ps ≤ 3300
+  pub some : 1 ≤ tREFI (s .header) .clocks
   pub count : s .count ≤ limit
   pub range : Ranged s
 
@@ -79,7 +77,6 @@ unfolding inRange
 tested s h =
     let a = both _ _ h in
     let hd = both _ _ (a .0) in
-    let pd = both _ _ (hd .1) in
     let d = both _ _ (a .1) in
     let n = count-facts (s .count) (s .edge) (d .0) in
     let f = both _ _ (d .1) in
@@ -87,8 +84,7 @@ tested s h =
     let b = both _ _ (f .1) in
     record {
       bin = leb-true _ _ (hd .0);
-      some = leb-true _ _ (pd .0);
-      most = leb-true _ _ (pd .1);
+      some = leb-true _ _ (hd .1);
       count = n .0;
       range = record {
         edge = n .1;
@@ -101,13 +97,9 @@ tested s h =
 
 -- ── The chip ────────────────────────────────────────────────────────────────────────────────
 
-interval : (x : Bool) (p : ℕ) → 1 ≤ p → p ≤ 3300 → 1 ≤ down (cond x 3900000 7800000) p
-interval true p l m = down-greatest 3900000 p l .greatest 1 (omega arith)
-interval false p l m = down-greatest 7800000 p l .greatest 1 (omega arith)
-
-pub small : (h : Header) → 1 ≤ h .period .ps → h .period .ps ≤ 3300 → Small (chipOf h)
+pub small : (h : Header) → 1 ≤ tREFI h .clocks → Small (chipOf h)
 unfolding chipOf
-small h l m =
+small h l =
     let b = bounds h in
     record {
       trcd = omega (arith, b .rcd);
@@ -119,7 +111,7 @@ small h l m =
       twr = omega (arith, b .wr);
       most = b .most;
       trefi = omega (arith, b .refi);
-      some = interval (h .hot) (h .period .ps) l m;
+      some = l;
     }
 
 -- ── A record keeps them ─────────────────────────────────────────────────────────────────────
@@ -213,7 +205,7 @@ module _ (C : Chip) (small : Small C) where
       record {
         edge = omega arith;
         phase = omega (arith, mod-lt (passed (n .shared .debt) (r .step)) (small .some));
-        owed = says-owed _ _ _ _ _ _ _ h;
+        owed = omega (arith, says-owed _ _ _ _ _ _ _ h);
         broke = range .broke;
         banks = banks-near _ r _ _ _ (n .banks) (omega arith) (range .banks);
       },

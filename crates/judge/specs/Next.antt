@@ -215,5 +215,5 @@ sharedNext C c r e n a s = markedNext C c r e n a (stamped C c r e s)
 -- sums of the debt that do not wrap
 pub record Calm (d : Debt) (step : ℕ) : Type 0 where
   pub phase : d .phase ≤ 17592186044416
-  pub owed : d .owed ≤ 16
+  pub owed : d .owed ≤ 17592186044416
   pub short : step ≤ 16777216

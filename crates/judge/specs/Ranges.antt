@@ -1,4 +1,4 @@
--- The ranges that 17 tests: only those needed so that no sum wraps, no index runs out and no divisor is 0. docs/RANGES.md lists them.
+-- The ranges that 17 tests: only those needed so that no sum wraps and no index runs out. docs/RANGES.md lists them.
 -- Assumes nothing.
 use Prim.Native.Nat.{ℕ, zero, suc, _+_, _*_, _/_, _%_, _≤_, _<_}
 use mathlib.Core.Bool.{Bool, true, false, cond, _&&_}
@@ -6,6 +6,7 @@ use mathlib.Core.List.{List, [], _∷_}
 use mathlib.Core.Path.{_≡_}
 use lib.Dec.{leb, ltb}
 use lib.ListN.{getD, length}
+use Rattle.header.specs.Counts.{tREFI}
 use Rattle.chip.specs.declared.Chip.{Chip}
 use Rattle.judge.specs.declared.Kept.{Kept}
 use Rattle.judge.specs.declared.State.{State}
@@ -48,9 +49,9 @@ counted count edge = cond (ltb limit count) false (leb edge (count * 16777216))
 
 unfoldable pub inRange : State → Bool
 inRange s =
-    (leb (s .header .bin) 3 && (leb 1 (s .header .period .ps) && leb (s .header .period .ps) 3300))
+    (leb (s .header .bin) 3 && leb 1 (tREFI (s .header) .clocks))
     && (counted (s .count) (s .edge)
-    && ((leb (s .shared .debt .phase) lastEdge && leb (s .shared .debt .owed) 16) && (leb (s .first .edge) lastEdge && banksOk (s .banks) 8)))
+    && ((leb (s .shared .debt .phase) lastEdge && leb (s .shared .debt .owed) lastEdge) && (leb (s .first .edge) lastEdge && banksOk (s .banks) 8)))
 
 -- every bank's ACT edge is near enough
 abbrev pub NearBanks : List Kept → Type 0
@@ -60,7 +61,7 @@ NearBanks ks = (b : ℕ) → b < 8 → getD ks b empty .acted .at ≤ farEdge
 pub record Ranged (s : State) : Type 0 where
   pub edge : s .edge ≤ s .count * 16777216
   pub phase : s .shared .debt .phase ≤ lastEdge
-  pub owed : s .shared .debt .owed ≤ 16
+  pub owed : s .shared .debt .owed ≤ lastEdge
   pub broke : s .first .edge ≤ lastEdge
   pub banks : (b : ℕ) → b < 8 → getD (s .banks) b empty .acted .at ≤ lastEdge
 
@@ -75,6 +76,6 @@ pub record Closable (C : Chip) (s : State) (end : ℕ) : Type 0 where
   pub small : Small C
   pub edge : s .edge ≤ lastEdge
   pub phase : s .shared .debt .phase ≤ lastEdge
-  pub owed : s .shared .debt .owed ≤ 16
+  pub owed : s .shared .debt .owed ≤ lastEdge
   pub broke : s .first .edge ≤ lastEdge
   pub until : end ≤ lastEdge

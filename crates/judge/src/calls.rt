@@ -316,7 +316,7 @@ fn rest(v: Verdict, end: u64) -> u64
 
 fn owed_now(chip: Chip, d: Debt, now: u64, t: u64) -> u64
     requires { ⌜ Ranges.Small chip ⌝ }
-    requires { ⌜ (d .phase ≤ Ranges.lastEdge) × (d .owed ≤ 16) × (t ≤ Ranges.lastEdge) ⌝ }
+    requires { ⌜ (d .phase ≤ Ranges.lastEdge) × (d .owed ≤ Ranges.lastEdge) × (t ≤ Ranges.lastEdge) ⌝ }
     ensures { λ r. ⌜ r ≡ calls.owedAt chip d now t ⌝ }
 {
     let total = d.phase + awake(d.sleeps, since(t, now));

@@ -8,11 +8,11 @@ pub(crate) fn in_range(s: State) -> bool
     ensures { λ r. ⌜ r ≡ ranges.inRange s ⌝ }
 {
     let banks = s.banks;
-    let p = s.header.period.ps;
-    let header = (s.header.bin <= 3) & ((1 <= p) & (p <= 3300));
+    let interval = s.header.trefi().clocks;
+    let header = (s.header.bin <= 3) & (1 <= interval);
     header
         & (counted(s.count, s.edge)
-            & (((s.shared.debt.phase <= 17592186044416) & (s.shared.debt.owed <= 16))
+            & (((s.shared.debt.phase <= 17592186044416) & (s.shared.debt.owed <= 17592186044416))
                 & ((s.first.edge <= 17592186044416) & banks_ok(banks))))
 }
 

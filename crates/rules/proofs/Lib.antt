@@ -24,3 +24,4 @@ pub mod Never
 pub mod Section
 pub mod Sections
 pub mod Cuts
+pub mod Recordings

@@ -8,6 +8,7 @@ use mathlib.Core.List.{List, [], _∷_}
 use lib.Dec.{eqb, ltb}
 use lib.ListN.{length, getD, getD-replicate}
 use borrow.Author.Tests.{eqb-true, ltb-false, le-leb, le-ltb}
+use Rattle.header.specs.Counts.{tREFI}
 use Rattle.records.specs.declared.Record.{Record}
 use Rattle.records.specs.Record.{fieldsOf, records}
 use Rattle.chip.specs.declared.Chip.{Chip}
@@ -20,7 +21,7 @@ use Rattle.judge.specs.Step.{isClean, turnIn, movedOf, stoppedOf, stepOf, foldO
 use Rattle.judge.specs.Ranges.{limit, lastEdge, banksOk, inRange, Small, Ranged}
 use Rattle.judge.specs.Calls.{startOf, freshState, freshShared, openOf, hasZero, refuse, take, sectionOf}
 use Rattle.judge.proofs.Ranging.{Tested, tested, small, step-goes}
-use Rattle.rules.proofs.Openings.{opened-header, opened-state, taken-period, taken-bin}
+use Rattle.rules.proofs.Openings.{opened-header, opened-state, taken-sound, taken-bin}
 use Rattle.rules.proofs.Cutting.{length-records}
 
 -- ── From the facts to the test ──────────────────────────────────────────────────────────────
@@ -35,12 +36,11 @@ unfolding inRange
 in-range s t =
     rw (
       le-leb (s .header .bin) 3 (t .bin),
-      le-leb 1 (s .header .period .ps) (t .some),
-      le-leb (s .header .period .ps) 3300 (t .most),
+      le-leb 1 (tREFI (s .header) .clocks) (t .some),
       le-ltb limit (s .count) (t .count),
       le-leb (s .edge) (s .count * 16777216) (t .range .edge),
       le-leb (s .shared .debt .phase) lastEdge (t .range .phase),
-      le-leb (s .shared .debt .owed) 16 (t .range .owed),
+      le-leb (s .shared .debt .owed) lastEdge (t .range .owed),
       le-leb (s .first .edge) lastEdge (t .range .broke),
       banks-ok (s .banks) 8 (t .range .banks),
     )
@@ -87,16 +87,14 @@ module _ (C : Chip) (small : Small C) where
 -- ── Opening and a section ───────────────────────────────────────────────────────────────────
 
 pub open-in-range : (bytes : List ℕ) → openOf bytes .refused ≡ 0 → inRange (openOf bytes .state) ≡ true
-unfolding freshState freshShared
+unfolding freshState freshShared chipOf
 open-in-range bytes z =
     let w = opened-header bytes z in
     let h = w .0 in
-    let p = taken-period bytes h (w .1) in
     ap (λ (o : Opened). inRange (o .state)) (opened-state bytes h (w .1))
     ∙ in-range (startOf h) (record {
       bin = taken-bin bytes h (w .1);
-      some = omega (arith, p .0);
-      most = p .1;
+      some = taken-sound bytes h (w .1) .refi-least;
       count = omega arith;
       range = record {
         edge = omega arith;
@@ -117,12 +115,11 @@ section-in-range s bs h = rw h (go (eqb (length bs % 6) 0) refl (ltb limit (s .c
     taken : length bs % 6 ≡ 0 → s .count + length bs / 6 ≤ limit → inRange after ≡ true
     taken sixes room =
         let t = tested s h in
-        let w = fold-kept (chipOf (s .header)) (small (s .header) (t .some) (t .most)) (records bs) s (t .range) (omega (arith, length-records bs sixes)) (short bs) in
+        let w = fold-kept (chipOf (s .header)) (small (s .header) (t .some)) (records bs) s (t .range) (omega (arith, length-records bs sixes)) (short bs) in
         let same : after .header ≡ s .header = w .2 in
         in-range after (record {
           bin = rw same (t .bin);
           some = rw same (t .some);
-          most = rw same (t .most);
           count = omega (arith, w .1, length-records bs sixes);
           range = w .0;
         })

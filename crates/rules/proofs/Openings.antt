@@ -44,7 +44,7 @@ fields-taken bytes h = go (eqb (length bytes) 6) h
     go true e = e
     go false e = absurd (omega arith)
 
-taken-is : (bytes : List ℕ) (h : Header) → parsedOf bytes ≡ Taken h → (headerRefusal bytes ≡ 0) × (headerOf (headerWord bytes) ≡ h)
+pub taken-is : (bytes : List ℕ) (h : Header) → parsedOf bytes ≡ Taken h → (headerRefusal bytes ≡ 0) × (headerOf (headerWord bytes) ≡ h)
 unfolding parsedOf
 taken-is bytes h e = go (eqb (headerRefusal bytes) 0) refl e
   where

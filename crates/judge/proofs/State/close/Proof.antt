@@ -36,7 +36,7 @@ closed-requires : tie.Need-closed-requires
 closed-requires c κs = let t = tested _ (sym (c .before .before .before .before .in-range .ensures) ∙ not-false _ (c .before .before .before .if1 .left)) in
     let e = neither (ltb (c .before .before .before .before .before .args .end) (c .before .before .before .before .before .args .self .edge)) (ltb 17592186044416 (c .before .before .before .before .before .args .end)) (c .before .if2 .left) in
     record {
-      small = rw (c .chip-of .ensures) (small _ (t .some) (t .most));
+      small = rw (c .chip-of .ensures) (small _ (t .some));
       edge = omega arith;
       phase = t .range .phase;
       owed = t .range .owed;

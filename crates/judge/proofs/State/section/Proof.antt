@@ -57,7 +57,7 @@ chip-of-requires c κs = search needs
 
 fold-requires : tie.Need-fold-requires
 fold-requires c κs = let t = tested _ (sym (c .before .before .before .before .before .before .before .in-range .ensures) ∙ not-false _ (c .before .before .before .before .before .before .if1 .left)) in
-    record { small = rw (c .chip-of .ensures) (small _ (t .some) (t .most)); range = t .range; sixes = c .before .before .before .before .before .if2 .left; room = c .before .before .before .if3 .left }
+    record { small = rw (c .chip-of .ensures) (small _ (t .some)); range = t .range; sixes = c .before .before .before .before .before .if2 .left; room = c .before .before .before .if3 .left }
 
 so-far-requires : tie.Need-so-far-requires
 so-far-requires c κs = search needs

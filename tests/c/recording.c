@@ -1,0 +1,184 @@
+/* Calls manilaply_judge from C: on every whole recording of tests/vectors/whole.txt, and on every refusal and each pair of
+ * refusals that can hold at once. tests/c/run builds it and runs it from the repository's root. */
+#define TEST "recording"
+#include "lent.h"
+
+int open(const char *path, int how, ...);
+long read(int file, void *bytes, size_t length);
+
+enum { TWENTY = 20, HEADER = 6, RECORD = 6, LIMIT = 1048576 };
+
+/* One judging on a buffer of out_len bytes, of each kind; the recording is lent in a block of its own and must stay. */
+static void judging(const char *table, unsigned long row, const uint8_t *recording, size_t length,
+                    uint64_t end, size_t out_len, uint32_t wanted, const uint8_t *bytes)
+{
+    unsigned kind;
+    for (kind = 0; kind <= BLOCK; kind++) {
+        uint8_t *lent = malloc(length);
+        uint8_t *out = lend(kind, out_len);
+        uint32_t got;
+        int good = 1;
+        size_t i;
+        for (i = 0; i < length; i++)
+            lent[i] = recording[i];
+        got = manilaply_judge(lent, length, end, out, out_len);
+        for (i = 0; i < length; i++)
+            good &= lent[i] == recording[i];
+        good &= holds(kind, out, out_len, bytes, wanted == 0 ? TWENTY : 0) && got == wanted;
+        count(good, table, row, wanted, got);
+        free(lent);
+    }
+}
+
+/* ---- the vectors */
+
+static uint8_t text[1 << 20], recording[1 << 12];
+
+static unsigned digit(uint8_t c)
+{
+    return c >= 'a' ? c - 'a' + 10u : c - '0' + 0u;
+}
+
+/* The bytes of a field in hex, up to the tab behind it. */
+static size_t unhex(const uint8_t *field, uint8_t *bytes)
+{
+    size_t n = 0;
+    while (field[2 * n] > ' ') {
+        bytes[n] = (uint8_t)(digit(field[2 * n]) * 16 + digit(field[2 * n + 1]));
+        n++;
+    }
+    return n;
+}
+
+static const uint8_t *after(const uint8_t *at, uint8_t mark)
+{
+    while (*at != mark)
+        at++;
+    return at + 1;
+}
+
+static uint64_t number(const uint8_t *at)
+{
+    uint64_t n = 0;
+    while (*at >= '0' && *at <= '9')
+        n = n * 10 + digit(*at++);
+    return n;
+}
+
+/* The edge of the last record. */
+static uint64_t last_edge(const uint8_t *bytes, size_t length)
+{
+    uint64_t edge = 0;
+    size_t at;
+    for (at = HEADER; at + RECORD <= length; at += RECORD)
+        edge += (uint64_t)bytes[at] << 16 | (uint64_t)bytes[at + 1] << 8 | bytes[at + 2];
+    return edge;
+}
+
+/* A line: the recording, tab, the end edge or '-' for the last record's, tab, the program's line, and where that is no
+ * refusal, tab, the 20 bytes. */
+static void by_line(const uint8_t *line, unsigned long row)
+{
+    uint8_t bytes[TWENTY] = {0};
+    size_t length = unhex(line, recording);
+    const uint8_t *end_field = after(line, '\t');
+    const uint8_t *answer = after(end_field, '\t');
+    uint64_t end = *end_field == '-' ? last_edge(recording, length) : number(end_field);
+    uint32_t wanted = *answer == 'r' ? (uint32_t)number(after(answer, ' ')) : 0;
+    size_t out_len;
+    if (wanted == 0)
+        unhex(after(answer, '\t'), bytes);
+    for (out_len = TWENTY; out_len <= MOST; out_len += MOST - TWENTY)
+        judging("vectors", row, recording, length, end, out_len, wanted, bytes);
+    judging("vectors, no room", row, recording, length, end, TWENTY - 1, 9, bytes);
+}
+
+static void by_vectors(void)
+{
+    int file = open("tests/vectors/whole.txt", 0);
+    size_t size = 0;
+    long n;
+    unsigned long row = 0;
+    const uint8_t *at = text;
+    while (size < sizeof text && (n = read(file, text + size, sizeof text - size)) > 0)
+        size += (size_t)n;
+    while (at < text + size) {
+        by_line(at, ++row);
+        at = after(at, '\n');
+    }
+    count(row >= 1000 && size < sizeof text, "vectors, how many", row, 0, 0);
+}
+
+/* ---- refusals */
+
+/* In the order in which they are checked. */
+static const uint32_t ORDER[] = {9, 1, 2, 3, 4, 5, 7, 6, 8};
+
+enum { CHECKS = 9, RECORDS = 3 };
+
+/* A clean recording of NOPs, each 10 edges after the one before, in which a check of ORDER fails for each bit of faults. */
+static void refusal(unsigned faults)
+{
+    static uint8_t bytes[HEADER + RECORD * (LIMIT + 1) + 1];
+    static const uint8_t ZEROS[TWENTY] = {0};
+    size_t records = faults & 1u << 6 ? LIMIT + 1 : RECORDS, at;
+    size_t length = HEADER + RECORD * records, first = CHECKS;
+    uint64_t end = 10 * (uint64_t)records;
+    bytes[0] = faults & 1u << 2 ? 0x24 : 0x14;
+    bytes[1] = faults & 1u << 4 ? 0x01 : 0x05;
+    bytes[2] = 0xdc;
+    bytes[5] = faults & 1u << 3 ? 1 : 0;
+    for (at = HEADER; at < length; at += RECORD) {
+        bytes[at + 2] = 10;
+        bytes[at + 3] = 0xb8;
+    }
+    if (faults & 1u << 7) {
+        bytes[HEADER + RECORD + 2] = 0;
+        end -= 10;
+    }
+    length = faults & 1u << 1 ? HEADER - 1 : faults & 1u << 5 ? length + 1 : length;
+    if (faults & 1u << 8)
+        end = faults & 1 ? 17592186044417 : end - 1;
+    while (first-- > 0)
+        if (faults & 1u << first)
+            at = first;
+    judging("refusals", faults, bytes, length, end, faults & 1 ? 19 : 20, ORDER[at], ZEROS);
+}
+
+static void refusals(void)
+{
+    unsigned one, other;
+    for (one = 0; one < CHECKS; one++)
+        for (other = one; other < CHECKS; other++)
+            refusal(1u << one | 1u << other);
+}
+
+/* The greatest end edge, one more, and the last record's edge. */
+static void ends(void)
+{
+    static const uint8_t HEAD[] = {0x14, 0x05, 0xdc, 0, 0, 0};
+    static const uint8_t NONE[TWENTY] = {0};
+    static const uint8_t LATE[TWENTY] = {1, 25, 0, 0, 0, 0, 0, 0, 0, 0, 0, 0, 0xb6, 0xd0, 0, 0, 8, 0, 0, 9};
+    judging("no record, end 0", 0, HEAD, HEADER, 0, TWENTY, 0, NONE);
+    judging("no record, end 2^44", 0, HEAD, HEADER, 17592186044416, TWENTY, 0, LATE);
+    judging("no record, end 2^44 and one", 0, HEAD, HEADER, 17592186044417, TWENTY, 8, NONE);
+}
+
+/* A null pointer with length 0. */
+static void of_null(void)
+{
+    uint8_t out[TWENTY];
+    uint32_t got = manilaply_judge(0, 0, 0, 0, 0);
+    count(got == 9, "null and no room", 0, 9, got);
+    got = manilaply_judge(0, 0, 0, out, TWENTY);
+    count(got == 1, "null", 0, 1, got);
+}
+
+int main(void)
+{
+    by_vectors();
+    refusals();
+    ends();
+    of_null();
+    return told();
+}
