@@ -20,6 +20,7 @@ use Rattle.rules.specs.Deadlines.{asleep, awakeTo, awakeAt, owedTo, owedAt}
 use Rattle.rules.specs.Verdict.{keep}
 use Rattle.cases.specs.Case.{AllHold}
 use Rattle.cases.specs.Table.{headerP1, bytesP8, bytesP9, bytesP10, table}
+use Rattle.cases.proofs.Running.{far-hold}
 use Rattle.cases.proofs.Early.{early, judged-early}
 
 pub examples-hold : AllHold table
@@ -42,7 +43,7 @@ examples-hold = (
                 refl,
                 (
                   refl,
-                  (refl, (refl, (refl, (refl, (refl, (refl, (refl, (refl, (refl, (refl, (refl, (refl, (refl, (refl, (refl, (refl, (refl, (judged-early headerP1 bytesP8 529 _ refl refl, (judged-early headerP1 bytesP9 530 _ refl refl, (judged-early headerP1 bytesP10 539 _ refl refl, tt)))))))))))))))))))),
+                  (refl, (refl, (refl, (refl, (refl, (refl, (refl, (refl, (refl, (refl, (refl, (refl, (refl, (refl, (refl, (refl, (refl, (judged-early headerP1 bytesP8 529 _ refl refl, (judged-early headerP1 bytesP9 530 _ refl refl, (judged-early headerP1 bytesP10 539 _ refl refl, far-hold)))))))))))))))))))),
                 ),
               ),
             ),

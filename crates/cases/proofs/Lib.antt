@@ -1,2 +1,3 @@
 pub mod Early
+pub mod Running
 pub mod Hold

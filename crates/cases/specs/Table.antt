@@ -1,4 +1,4 @@
--- 01, "Examples (P: proved)": P1 to P10.
+-- 01, "Examples (P: proved)": P1 to P12.
 -- Assumes nothing.
 use Prim.Native.Nat.{ℕ}
 use mathlib.Core.Bool.{true, false}
@@ -21,9 +21,11 @@ abbrev pub headerP7 : (bin period : ℕ) → Header
 headerP7 bin period = record { bin = bin; dense = false; wide = false; hot = false; period = record { ps = period } }
 
 -- "P8 .. records 000001820010, 000004830000, 000004810000, 000004800B50, 00000C9B0123, 0001F4AB0000, 000004930000"
+abbrev pub firstFive : (last : List ℕ) → List ℕ
+firstFive last = bytes6 0x000001820010 (bytes6 0x000004830000 (bytes6 0x000004810000 (bytes6 0x000004800B50 (bytes6 0x00000C9B0123 last))))
+
 abbrev pub firstSix : (last : List ℕ) → List ℕ
-firstSix last =
-    bytes6 0x000001820010 (bytes6 0x000004830000 (bytes6 0x000004810000 (bytes6 0x000004800B50 (bytes6 0x00000C9B0123 (bytes6 0x0001F4AB0000 last)))))
+firstSix last = firstFive (bytes6 0x0001F4AB0000 last)
 
 abbrev pub bytesP8 : List ℕ
 bytesP8 = firstSix (bytes6 0x000004930000 [])
@@ -35,6 +37,10 @@ bytesP9 = firstSix (bytes6 0x000005930000 [])
 -- "P10 P9 then PRE after 4, ACT after 5 (both bank 3)"
 abbrev pub bytesP10 : List ℕ
 bytesP10 = firstSix (bytes6 0x000005930000 (bytes6 0x000004930000 (bytes6 0x0000059B0000 [])))
+
+-- "P12 P8's first five records"
+abbrev pub bytesP12 : List ℕ
+bytesP12 = firstFive []
 
 -- "broken 10 7 6 529 5 4 (rule, record, partner, edge, needed, found)"
 abbrev pub broken : (rule number partner edge needed found : ℕ) → Verdict
@@ -77,4 +83,10 @@ table =
     ∷ judged headerP1 bytesP9 530 (clean 7 530)
     -- "P10 .. broken 5 9 8 539 9 5"
     ∷ judged headerP1 bytesP10 539 (broken 5 9 8 539 9 5)
+    -- "P11 at P1, no record: clean at end 46799, at 46800 broken by 25"
+    ∷ judged headerP1 [] 46799 (clean 0 46799)
+    ∷ judged headerP1 [] 46800 (broken 25 0 0 46800 8 9)
+    -- "P12 P8's first five records: clean at end 46691, broken by 24 at 46692"
+    ∷ judged headerP1 bytesP12 46691 (clean 5 46691)
+    ∷ judged headerP1 bytesP12 46692 (broken 24 0 5 46692 46666 46667)
     ∷ []

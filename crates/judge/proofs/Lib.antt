@@ -3,3 +3,4 @@ pub mod Sections
 pub mod Ranging
 pub mod Folds
 pub mod Closing
+pub mod Answers
