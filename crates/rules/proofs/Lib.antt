@@ -13,6 +13,8 @@ pub mod Words
 pub mod InTheWay
 pub mod Agree
 pub mod Sense
+pub mod Partners
+pub mod Pairs
 pub mod Gap
 pub mod Edges
 pub mod Turn
