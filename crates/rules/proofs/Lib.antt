@@ -15,6 +15,7 @@ pub mod Agree
 pub mod Sense
 pub mod Partners
 pub mod Pairs
+pub mod Least
 pub mod Gap
 pub mod Edges
 pub mod Turn
