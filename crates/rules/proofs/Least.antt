@@ -31,27 +31,45 @@ module _ (C : Chip) where
     no-refresh : Woken-pair C r p partner needed found → Pair r p partner needed found 23
 
   -- the check g speaks of rule k alone
-  abbrev Says : ℕ → (Record → Past → Break) → Type 0
+  abbrev pub Says : ℕ → (Record → Past → Break) → Type 0
   Says k g = (r : Record) (p : Past) (j n m f : ℕ) → g r p ≡ Broken j n m f → (j ≡ k) × Pair r p n m f k
+
+  pub says1 : Says 1 (rule1 C)
+  says1 r p j n m f h = let w = pair1 C r p j n m f h in (w .0, other-change (w .1) (w .2) (w .3))
+
+  pub says2 : Says 2 (rule2 C)
+  says2 r p j n m f h = let w = pair2 C r p j n m f h in (w .0, in-the-way (w .1))
+
+  pub says3 : Says 3 (rule3 C)
+  says3 r p j n m f h = let w = pair3 C r p j n m f h in (w .0, lacking (w .1) (w .2) (w .3))
+
+  pub says5 : Says 5 (rule5 C)
+  says5 r p j n m f h = let w = pair5 C r p j n m f h in (w .0, precharging (w .1))
+
+  pub says8 : Says 8 (rule8 C)
+  says8 r p j n m f h = let w = pair8 C r p j n m f h in (w .0, five-acts (w .1))
+
+  pub says23 : Says 23 (rule23 C)
+  says23 r p j n m f h = let w = pair23 C r p j n m f h in (w .0, no-refresh (w .1))
+
+  pub says-row : (x : Row) → Says (spacing C x .name) (spaced C x)
+  says-row x r p j n m f h = let w = row-pair (spacing C x) r p j n m f h in (w .0, too-soon x (w .1))
 
   -- the checks speak of rules from k on, by number
   data Ordered : ℕ → List (Record → Past → Break) → Type 0 where
     none : {k : ℕ} → Ordered k []
     also : {k : ℕ} {g : Record → Past → Break} {gs : List (Record → Past → Break)} (j : ℕ) → leb k j ≡ true → Says j g → Ordered j gs → Ordered k (g ∷ gs)
 
-  says-row : (x : Row) → Says (spacing C x .name) (spaced C x)
-  says-row x r p j n m f h = let w = row-pair (spacing C x) r p j n m f h in (w .0, too-soon x (w .1))
-
   ordered : Ordered 1 (checks C)
   ordered =
-      also 1 refl (λ r p j n m f h. let w = pair1 C r p j n m f h in (w .0, other-change (w .1) (w .2) (w .3)))
-      (also 2 refl (λ r p j n m f h. let w = pair2 C r p j n m f h in (w .0, in-the-way (w .1)))
-      (also 3 refl (λ r p j n m f h. let w = pair3 C r p j n m f h in (w .0, lacking (w .1) (w .2) (w .3)))
+      also 1 refl says1
+      (also 2 refl says2
+      (also 3 refl says3
       (also 4 refl (says-row r4)
-      (also 5 refl (λ r p j n m f h. let w = pair5 C r p j n m f h in (w .0, precharging (w .1)))
+      (also 5 refl says5
       (also 6 refl (says-row r6)
       (also 7 refl (says-row r7)
-      (also 8 refl (λ r p j n m f h. let w = pair8 C r p j n m f h in (w .0, five-acts (w .1)))
+      (also 8 refl says8
       (also 9 refl (says-row r9)
       (also 10 refl (says-row r10)
       (also 11 refl (says-row r11)
@@ -67,7 +85,7 @@ module _ (C : Chip) where
       (also 20 refl (says-row r20)
       (also 21 refl (says-row r21)
       (also 22 refl (says-row r22)
-      (also 23 refl (λ r p j n m f h. let w = pair23 C r p j n m f h in (w .0, no-refresh (w .1)))
+      (also 23 refl says23
       none)))))))))))))))))))))))
 
   -- rule k is broken by the record r after the past p: one of the checks says so

@@ -16,6 +16,7 @@ pub mod Sense
 pub mod Partners
 pub mod Pairs
 pub mod Least
+pub mod Breaks
 pub mod Gap
 pub mod Edges
 pub mod Turn

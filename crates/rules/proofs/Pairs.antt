@@ -23,6 +23,7 @@ use Rattle.rules.specs.Rules.{may, concerns, barred, demand, rule1, rule
 use Rattle.rules.proofs.Generic.{decide}
 use Rattle.rules.proofs.Events.{never, Greatest, greatest-is}
 use Rattle.rules.proofs.Sense.{partner-is}
+use Rattle.rules.proofs.Clean.{wantsAll}
 use Rattle.rules.proofs.Partners.{fine-broken, Latest, latest-sense, Lowest, lowest-sense, act-number, Fourth, fourth-is}
 
 -- ── The rules that are no least spacings ────────────────────────────────────────────────────
@@ -30,6 +31,10 @@ use Rattle.rules.proofs.Partners.{fine-broken, Latest, latest-sense, Lo
 -- "Rules 1, 2, 3, 23: needed and found 0"
 abbrev pub None : (needed found : ℕ) → Type 0
 None m f = (m ≡ 0) × (f ≡ 0)
+
+pub start-none : (C : Chip) → start C [] ≡ 0
+unfolding start
+start-none C = refl
 
 module _ (C : Chip) (r : Record) (p : Past) where
   abbrev e : ℕ
@@ -62,7 +67,7 @@ module _ (C : Chip) (r : Record) (p : Past) where
   -- the events that rule 5 looks at: those that close an ACT's bank, or any bank for REF, MRS, ZQ, SRE
   pub data Closing-kind : (Past → Bool) → Type 0 where
     own : is Act (r ∷ p) ≡ true → Closing-kind (closes (bankOf (r ∷ p)))
-    any : is Ref (r ∷ p) || (is Mrs (r ∷ p) || (is Zq (r ∷ p) || is Sre (r ∷ p))) ≡ true → Closing-kind shuts
+    any : wantsAll (r ∷ p) ≡ true → Closing-kind shuts
 
   -- "rule 5 the PRE, RD or WR of the latest start (equal starts: later record), found counted from the start"
   pub record Start-pair (partner needed found : ℕ) : Type 0 where
@@ -149,17 +154,13 @@ module _ (C : Chip) (r : Record) (p : Past) where
       lack true l g = fine-broken g
       lack false l g = (cc, l refl, cc, (cc, cc))
 
-  start-none : start C [] ≡ 0
-  unfolding start
-  start-none = refl
-
   pub pair5 : (k n m f : ℕ) → rule5 C r p ≡ Broken k n m f → (k ≡ 5) × Start-pair n m f
   pair5 k n m f h = ⊎-elim
       (λ (y : is Act (r ∷ p) ≡ true). from (closes (bankOf (r ∷ p))) (own y) (rw y at h))
       (λ (z : is Act (r ∷ p) ≡ false). ⊎-elim
-      (λ (y : is Ref (r ∷ p) || (is Mrs (r ∷ p) || (is Zq (r ∷ p) || is Sre (r ∷ p))) ≡ true). from shuts (any y) (rw (z, y) at h))
-      (λ (u : is Ref (r ∷ p) || (is Mrs (r ∷ p) || (is Zq (r ∷ p) || is Sre (r ∷ p))) ≡ false). fine-broken (rw (z, u) at h))
-      (decide (is Ref (r ∷ p) || (is Mrs (r ∷ p) || (is Zq (r ∷ p) || is Sre (r ∷ p))))))
+      (λ (y : wantsAll (r ∷ p) ≡ true). from shuts (any y) (rw (z, y) at h))
+      (λ (u : wantsAll (r ∷ p) ≡ false). fine-broken (rw (z, u) at h))
+      (decide (wantsAll (r ∷ p))))
       (decide (is Act (r ∷ p)))
     where
       found : (s : Past) → since C e s ≡ Broken k n m f → (k ≡ 5) × (n ≡ number s) × (m ≡ C .trp) × (f ≡ e - start C s) × (f < m)
@@ -181,7 +182,7 @@ module _ (C : Chip) (r : Record) (p : Past) where
               kind = kind;
               looks = l;
               event = greatest kind (start C) p;
-              latest-start = ⊎-elim (λ x. fine-broken (rw (x .0) at g)) (λ x. x) (greatest-is kind (start C) start-none p);
+              latest-start = ⊎-elim (λ x. fine-broken (rw (x .0) at g)) (λ x. x) (greatest-is kind (start C) (start-none C) p);
               partner-is = w .1;
               needed-is = w .2;
               found-is = w .3;

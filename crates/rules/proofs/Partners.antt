@@ -3,7 +3,7 @@
 -- Assumes nothing.
 use Prim.Native.Nat.{ℕ, zero, suc, _-_, _≤_, _<_}
 use native.Mathlib.Omega.{arith}
-use mathlib.Core.Path.{_≡_, refl, sym, _∙_}
+use mathlib.Core.Path.{_≡_, refl, sym, ap, _∙_}
 use mathlib.Core.Logic.{_⊎_, ⊎-elim}
 use mathlib.Core.Bool.{Bool, true, false, cond}
 use mathlib.Core.List.{[], _∷_, tail}
@@ -49,6 +49,17 @@ latest-sense k (r ∷ p) l = ⊎-elim
         → (t : Past) → t ∈ r ∷ p → k t ≡ true → number t ≤ number (latest k p)
     older n g t here z = never z n
     older n g t (there i) z = g t i z
+
+-- there is one such event
+latest-at : (k : Past → Bool) {s p : Past} → s ∈ p → k s ≡ true → ((t : Past) → t ∈ p → k t ≡ true → number t ≤ number s) → latest k p ≡ s
+latest-at k here y l = rw y
+latest-at k (there {r = r} {p = p} i) y l = ⊎-elim
+    (λ (z : k (r ∷ p) ≡ true). absurd (omega (arith, l (r ∷ p) here z, number-le i)))
+    (λ (z : k (r ∷ p) ≡ false). rw z (latest-at k i y (λ t j. l t (there j))))
+    (decide (k (r ∷ p)))
+
+pub latest-one : (k : Past → Bool) (p s : Past) → Latest k p s → latest k p ≡ s
+latest-one k p s w = latest-at k (w .event) (w .kind) (w .last)
 
 -- ── A least spacing ─────────────────────────────────────────────────────────────────────────
 
@@ -142,16 +153,30 @@ some-tail : (k : Past → Bool) (s : Past) → 1 ≤ number (latest k (tail s)) 
 some-tail k [] l = absurd (omega arith)
 some-tail k (r ∷ p) l = omega arith
 
+fourth-back : (p : Past) → back (is Act) 3 p ≡ latest (is Act) (tail (latest (is Act) (tail (latest (is Act) (tail (latest (is Act) p))))))
+fourth-back p =
+    let a = latest (is Act) p in
+    let b = latest (is Act) (tail a) in
+    let c = latest (is Act) (tail b) in
+    back-tail (is Act) 2 p ∙ back-tail (is Act) 1 (tail a) ∙ back-tail (is Act) 0 (tail b) ∙ back-latest (is Act) (tail c)
+
 pub fourth-is : (p : Past) → 1 ≤ number (back (is Act) 3 p) → Fourth p (back (is Act) 3 p)
 fourth-is p l =
     let a = latest (is Act) p in
     let b = latest (is Act) (tail a) in
     let c = latest (is Act) (tail b) in
     let d = latest (is Act) (tail c) in
-    let same : back (is Act) 3 p ≡ d =
-    back-tail (is Act) 2 p ∙ back-tail (is Act) 1 (tail a) ∙ back-tail (is Act) 0 (tail b) ∙ back-latest (is Act) (tail c) in
-    let fourth : 1 ≤ number d = rw same at l in
+    let fourth : 1 ≤ number d = rw (fourth-back p) at l in
     let third : 1 ≤ number c = some-tail (is Act) c fourth in
     let second : 1 ≤ number b = some-tail (is Act) b third in
     let first : 1 ≤ number a = some-tail (is Act) a second in
-    rw same (a, b, c, latest-sense (is Act) p first, latest-sense (is Act) (tail a) second, latest-sense (is Act) (tail b) third, latest-sense (is Act) (tail c) fourth)
+    rw (fourth-back p)
+    (a, b, c, latest-sense (is Act) p first, latest-sense (is Act) (tail a) second, latest-sense (is Act) (tail b) third, latest-sense (is Act) (tail c) fourth)
+
+pub fourth-one : (p s : Past) → Fourth p s → back (is Act) 3 p ≡ s
+fourth-one p s (a, b, c, w, x, y, z) =
+    fourth-back p
+    ∙ ap (λ u. latest (is Act) (tail (latest (is Act) (tail (latest (is Act) (tail u)))))) (latest-one (is Act) p a w)
+    ∙ ap (λ u. latest (is Act) (tail (latest (is Act) (tail u)))) (latest-one (is Act) (tail a) b x)
+    ∙ ap (λ u. latest (is Act) (tail u)) (latest-one (is Act) (tail b) c y)
+    ∙ latest-one (is Act) (tail c) s z
