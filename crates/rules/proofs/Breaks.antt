@@ -1,27 +1,25 @@
 -- What it is to break a rule, in 01's words: at a record by rules 1 to 23, at an edge by 24 and 25. A check says so exactly then.
 -- Assumes nothing.
-use Prim.Native.Nat.{ℕ, _+_, _-_, _≤_, _<_}
+use Prim.Native.Nat.{ℕ, _-_, _≤_, _<_}
 use native.Mathlib.Omega.{arith}
-use mathlib.Core.Path.{_≡_, refl, sym, ap, _∙_}
+use mathlib.Core.Path.{_≡_, refl, ap, _∙_}
 use mathlib.Core.Logic.{⊎-elim}
-use mathlib.Core.Bool.{Bool, true, false, cond, _&&_, _||_}
-use mathlib.Core.List.{[], _∷_, tail}
-use lib.Dec.{leb, ltb}
-use borrow.Author.Tests.{ltb-true, ltb-false, lt-ltb}
+use mathlib.Core.Bool.{Bool, true, false, _||_}
+use mathlib.Core.List.{[], _∷_}
 use Rattle.answers.specs.declared.Break.{Break}
 use Rattle.answers.specs.declared.Break.the-variants.{Fine, Broken}
 use Rattle.records.specs.declared.Record.{Record}
 use Rattle.records.specs.declared.Command.the-variants.{Mrs, Ref, Act, Rd, Sre, Srx, Bad}
 use Rattle.chip.specs.declared.Chip.{Chip}
-use Rattle.rules.specs.Past.{Past, edge, number, command, is, bankOf, on, _∈_, here, there, latest, back, greatest}
-use Rattle.rules.specs.Banks.{closes, shuts, start}
-use Rattle.rules.specs.Search.{lowest, asking}
+use Rattle.rules.specs.Past.{Past, edge, number, is, _∈_, greatest}
+use Rattle.rules.specs.Banks.{start}
+use Rattle.rules.specs.Search.{asking}
 use Rattle.rules.specs.Rules.{Row, r4, r6, r7, r9, r10, r11, r12r, r12w, r13, r14, r15, r16, r17, r18, r19, r20, r21, r22, rule1, rule2, rule3, rule5, rule8, rule23, since, fourth, spacing, spaced, checks}
 use Rattle.rules.proofs.Generic.{decide, broken-fine, short-fine, fine-kept}
-use Rattle.rules.proofs.Events.{never, event-some, Greatest, greatest-is}
-use Rattle.rules.proofs.Clean.{Among, first, next, lowest-fine, is-other, act-not-all, wantsAll}
-use Rattle.rules.proofs.Partners.{fine-broken, Latest, latest-one, Fourth, fourth-one, Row-pair, row-pair}
-use Rattle.rules.proofs.Pairs.{speaksOf, mayFind, Way-pair, Lacks, code, registers, reset, Closing-kind, own, any, start-none, Start-pair, Fourth-pair, Woken-pair}
+use Rattle.rules.proofs.Events.{never, event-some, greatest-is}
+use Rattle.rules.proofs.Clean.{Among, first, next, lowest-fine, is-other, act-not-all}
+use Rattle.rules.proofs.Partners.{Latest, latest-one, Fourth, fourth-one}
+use Rattle.rules.proofs.Pairs.{speaksOf, mayFind, Lacks, code, registers, reset, Closing-kind, own, any, start-none}
 use Rattle.rules.proofs.Least.{Pair, other-change, in-the-way, lacking, too-soon, precharging, five-acts, no-refresh, Says, says-row, says1, says2, says3, says5, says8, says23, BreaksRecord}
 
 module _ (C : Chip) (r : Record) (p : Past) where

@@ -17,6 +17,7 @@ pub mod Partners
 pub mod Pairs
 pub mod Least
 pub mod Breaks
+pub mod Passing
 pub mod Gap
 pub mod Edges
 pub mod Turn

@@ -12,7 +12,7 @@ use borrow.Author.Tests.{ltb-true}
 use Rattle.answers.specs.declared.Break.{Break}
 use Rattle.answers.specs.declared.Break.the-variants.{Fine, Broken}
 use Rattle.records.specs.declared.Record.{Record}
-use Rattle.records.specs.declared.Command.the-variants.{Mrs, Ref, Act, Rd, Zq, Sre, Srx, Bad}
+use Rattle.records.specs.declared.Command.the-variants.{Mrs, Ref, Act, Rd, Sre, Srx, Bad}
 use Rattle.registers.specs.Allowed.{allowed}
 use Rattle.records.specs.Command.{a10}
 use Rattle.chip.specs.declared.Chip.{Chip}

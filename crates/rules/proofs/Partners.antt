@@ -8,14 +8,15 @@ use mathlib.Core.Logic.{_⊎_, ⊎-elim}
 use mathlib.Core.Bool.{Bool, true, false, cond}
 use mathlib.Core.List.{[], _∷_, tail}
 use lib.Dec.{leb, ltb}
-use Rattle.answers.specs.declared.Bank.the-variants.{Idle, Open, Closing}
+use Rattle.answers.specs.declared.Bank.{Bank}
+use Rattle.answers.specs.declared.Bank.the-variants.{Idle}
 use Rattle.answers.specs.declared.Break.{Break}
 use Rattle.answers.specs.declared.Break.the-variants.{Fine, Broken}
 use Rattle.records.specs.declared.Record.{Record}
 use Rattle.records.specs.declared.Command.the-variants.{Act}
 use Rattle.chip.specs.declared.Chip.{Chip}
-use Rattle.rules.specs.Past.{Past, edge, number, is, addressOf, _∈_, here, there, latest, back}
-use Rattle.rules.specs.Banks.{actOn, closes, isIdle, actNum, start, status}
+use Rattle.rules.specs.Past.{Past, edge, number, is, _∈_, here, there, latest, back}
+use Rattle.rules.specs.Banks.{openBy, closingBy, actOn, closes, isIdle, actNum, start, status}
 use Rattle.rules.specs.Search.{orElse, lowest, asking, Spacing, row}
 use Rattle.rules.specs.Rules.{fourth}
 use Rattle.rules.proofs.Generic.{decide}
@@ -122,19 +123,19 @@ lowest-sense f (suc n) k x m y h = go (lowest f n) refl h (λ z. lowest-sense f 
         let w = ih (z ∙ e) in
         record { bank = w .bank; below = omega (arith, w .below); here-is = w .here-is; lower = w .lower }
 
--- a bank that is not idle has its latest ACT's number
-pub act-number : (C : Chip) (b t : ℕ) (p : Past) → actNum (status C b p t) ≡ cond (isIdle (status C b p t)) 0 (number (latest (actOn b) p))
-act-number C b t p = rw (status-by C b t p) (go (ltb (number (latest (closes b) p)) (number (latest (actOn b) p))) (leb (start C (latest (closes b) p)) t))
+-- a bank is idle, or open or closing by its latest ACT
+pub status-cases : (C : Chip) (b t : ℕ) (p : Past) (P : Bank → Type 0)
+    → P Idle → P (openBy (latest (actOn b) p)) → P (closingBy (latest (actOn b) p)) → P (status C b p t)
+status-cases C b t p P x y z =
+    rw (status-by C b t p) (go (ltb (number (latest (closes b) p)) (number (latest (actOn b) p))) (leb (start C (latest (closes b) p)) t))
   where
-    a : Past
-    a = latest (actOn b) p
+    go : (u v : Bool) → P (cond u (openBy (latest (actOn b) p)) (cond v Idle (closingBy (latest (actOn b) p))))
+    go true v = y
+    go false true = x
+    go false false = z
 
-    go : (x y : Bool) →
-        actNum (cond x (Open (edge a) (number a) (addressOf a)) (cond y Idle (Closing (edge a) (number a) (addressOf a))))
-        ≡ cond (isIdle (cond x (Open (edge a) (number a) (addressOf a)) (cond y Idle (Closing (edge a) (number a) (addressOf a))))) 0 (number a)
-    go true y = refl
-    go false true = refl
-    go false false = refl
+pub act-number : (C : Chip) (b t : ℕ) (p : Past) → actNum (status C b p t) ≡ cond (isIdle (status C b p t)) 0 (number (latest (actOn b) p))
+act-number C b t p = status-cases C b t p (λ k. actNum k ≡ cond (isIdle k) 0 (number (latest (actOn b) p))) refl refl refl
 
 -- ── The fourth back ─────────────────────────────────────────────────────────────────────────
 
