@@ -104,7 +104,7 @@ module _ (C : Chip) where
     above (also i l s o) (next a) h = let w = above o a h in omega (arith, leb-true)
 
     -- no check of the list breaks a rule below k
-    abbrev NoneBelow : (k : ℕ) → List (Record → Past → Break) → Type 0
+    abbrev pub NoneBelow : (k : ℕ) → List (Record → Past → Break) → Type 0
     NoneBelow k gs = (g : Record → Past → Break) (j a b c : ℕ) → Among g gs → g r p ≡ Broken j a b c → k ≤ j
 
     past-fine : {k : ℕ} {g : Record → Past → Break} {gs : List (Record → Past → Break)} → g r p ≡ Fine → NoneBelow k gs → NoneBelow k (g ∷ gs)
@@ -128,3 +128,37 @@ module _ (C : Chip) where
             let own = s r p k n m f (e ∙ q) in
             let same : j ≡ k = sym (own .0) in
             (subst (Pair r p n m f) same (own .1), subst (λ i. NoneBelow i (g ∷ gs)) same (past-own s o))
+
+    -- what the record breaks is the least that it breaks
+    pub record-least : {k n m f : ℕ} → breakAt (checks C) r p ≡ Broken k n m f → Pair r p n m f k × NoneBelow k (checks C)
+    record-least h = first-break ordered h
+
+  name-most : (x : Row) → spacing C x .name ≤ 22
+  name-most r4 = omega arith
+  name-most r6 = omega arith
+  name-most r7 = omega arith
+  name-most r9 = omega arith
+  name-most r10 = omega arith
+  name-most r11 = omega arith
+  name-most r12r = omega arith
+  name-most r12w = omega arith
+  name-most r13 = omega arith
+  name-most r14 = omega arith
+  name-most r15 = omega arith
+  name-most r16 = omega arith
+  name-most r17 = omega arith
+  name-most r18 = omega arith
+  name-most r19 = omega arith
+  name-most r20 = omega arith
+  name-most r21 = omega arith
+  name-most r22 = omega arith
+
+  -- records break rules 1 to 23
+  pub rule-most : {r : Record} {p : Past} {k n m f : ℕ} → Pair r p n m f k → k ≤ 23
+  rule-most (other-change y z w) = omega arith
+  rule-most (in-the-way w) = omega arith
+  rule-most (lacking w y z) = omega arith
+  rule-most (too-soon x w) = omega (arith, name-most x)
+  rule-most (precharging w) = omega arith
+  rule-most (five-acts w) = omega arith
+  rule-most (no-refresh w) = omega arith

@@ -20,6 +20,7 @@ pub mod Breaks
 pub mod Passing
 pub mod Gap
 pub mod Edges
+pub mod Means
 pub mod Turn
 pub mod Whole
 pub mod Closing
