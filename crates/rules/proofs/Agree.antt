@@ -29,7 +29,7 @@ use Rattle.rules.specs.Banks.{actOn, closes, shuts, start, status}
 use Rattle.rules.specs.Rules.{concerns, barred, covered, r4, r6, r7, r9, r10, r11, r12r, r12w, r13, r14, r15, r16, r17, r18, r19, r20, r21, r22, rule2, rule3, rule5, rule23, spacing, checks, breakAt}
 use Rattle.rules.proofs.Generic.{decide, Dominated, constant-dominated}
 use Rattle.rules.proofs.Events.{never, both, push}
-use Rattle.rules.proofs.Clean.{Clean, lowest-ext, is-other}
+use Rattle.rules.proofs.Clean.{Clean, lowest-ext, wantsAll, act-not-all}
 use Rattle.rules.proofs.Starts.{greatest-latest}
 use Rattle.rules.proofs.Facts.{Sound}
 use Rattle.rules.proofs.Dominate.{need4, need10, need11, need18, dominated-part, dominated4, dominated10, dominated11, dominated13, dominated14, dominated18, dominated19}
@@ -86,19 +86,10 @@ module _ (C : Chip) (S : Sound C) (r : Record) (p : Past) (h : Clean C p) where
   by R m d x = ap (at R) x ∙ sym (row-agrees R r p d)
 
   abbrev all : Bool
-  all = is Ref (r ∷ p) || (is Mrs (r ∷ p) || (is Zq (r ∷ p) || is Sre (r ∷ p)))
+  all = wantsAll (r ∷ p)
 
   agrees5 : cond (is Act (r ∷ p)) (check 5 e (startMark C (latest (closes b) p))) (cond all (check 5 e (startMark C (greatest shuts (start C) p))) Fine) ≡ rule5 C r p
   agrees5 = rw (since-mark C e (latest (closes b) p), since-mark C e (greatest shuts (start C) p), greatest-latest C b (omega arith) p h)
-
-  not-all : is Act (r ∷ p) ≡ true → all ≡ false
-  not-all y =
-      rw (
-        is-other Act Ref (r ∷ p) (λ z. omega arith) y,
-        is-other Act Mrs (r ∷ p) (λ z. omega arith) y,
-        is-other Act Zq (r ∷ p) (λ z. omega arith) y,
-        is-other Act Sre (r ∷ p) (λ z. omega arith) y,
-      )
 
   -- rule 5 is checked in two places
   five : {rest others : Break} → rest ≡ others
@@ -107,7 +98,7 @@ module _ (C : Chip) (S : Sound C) (r : Record) (p : Past) (h : Clean C p) where
   unfolding orElse
   five {rest} {others} q =
       also (is Act (r ∷ p)) 5 e (startMark C (latest (closes b) p)) refl (also all 5 e (startMark C (greatest shuts (start C) p)) refl q)
-      ∙ joined (is Act (r ∷ p)) all (not-all) (check 5 e (startMark C (latest (closes b) p))) (check 5 e (startMark C (greatest shuts (start C) p)))
+      ∙ joined (is Act (r ∷ p)) all (act-not-all (r ∷ p)) (check 5 e (startMark C (latest (closes b) p))) (check 5 e (startMark C (greatest shuts (start C) p)))
       ∙ ap (λ x. orElse x others) agrees5
     where
       joined : (x l : Bool) → (x ≡ true → l ≡ false) → (X Y : Break) → orElse (cond x X Fine) (orElse (cond l Y Fine) others) ≡ orElse (cond x X (cond l Y Fine)) others

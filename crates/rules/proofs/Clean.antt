@@ -122,6 +122,19 @@ pub is-other : (c d : Command) (s : Past) → (rank c ≡ rank d → ⊥) → is
 is-other C D [] h y = refl
 is-other C D (r ∷ p) h y = ne-eqb _ _ (λ e. h (sym (eqb-true _ _ y) ∙ e))
 
+-- REF, MRS, ZQ or SRE, which want all banks idle
+abbrev pub wantsAll : Past → Bool
+wantsAll s = is Ref s || (is Mrs s || (is Zq s || is Sre s))
+
+pub act-not-all : (s : Past) → is Act s ≡ true → wantsAll s ≡ false
+act-not-all s y =
+    rw (
+      is-other Act Ref s (λ z. omega arith) y,
+      is-other Act Mrs s (λ z. omega arith) y,
+      is-other Act Zq s (λ z. omega arith) y,
+      is-other Act Sre s (λ z. omega arith) y,
+    )
+
 pub idle-calm : (k : Bank) → isIdle k ≡ true → notClosing k ≡ true
 idle-calm Idle h = refl
 idle-calm (Open a n w) h = refl

@@ -46,7 +46,7 @@ up-to-before r p t l m = up-to-skip (t - 1) r p (omega arith) ∙ up-to-all (t -
 
 -- ── What is said of an edge ─────────────────────────────────────────────────────────────────
 
-say-clean : (t n : ℕ) (b d : Break) → say t n b d ≡ clean → (b ≡ Fine) × (d ≡ Fine)
+pub say-clean : (t n : ℕ) (b d : Break) → say t n b d ≡ clean → (b ≡ Fine) × (d ≡ Fine)
 say-clean t n Fine Fine h = (refl, refl)
 say-clean t n Fine (Broken k x m f) h = stop-clean h
 say-clean t n (Broken k x m f) d h = stop-clean h

@@ -47,6 +47,10 @@ pub some : {s p : Past} → s ∈ p → 1 ≤ number p
 some here = omega arith
 some (there i) = omega arith
 
+pub event-some : {s p : Past} → s ∈ p → 1 ≤ number s
+event-some here = omega arith
+event-some (there i) = event-some i
+
 -- ── The latest ──────────────────────────────────────────────────────────────────────────────
 
 pub latest-is : (k : Past → Bool) (p : Past) → (latest k p ≡ []) ⊎ ((latest k p ∈ p) × (k (latest k p) ≡ true))

@@ -13,8 +13,14 @@ pub mod Words
 pub mod InTheWay
 pub mod Agree
 pub mod Sense
+pub mod Partners
+pub mod Pairs
+pub mod Least
+pub mod Breaks
+pub mod Passing
 pub mod Gap
 pub mod Edges
+pub mod Means
 pub mod Turn
 pub mod Whole
 pub mod Closing

@@ -6,7 +6,7 @@ use native.Mathlib.Omega.{arith}
 use native.Mathlib.Decide.{decLt, ℕ-discrete}
 use mathlib.Core.Path.{_≡_, refl, sym, ap, _∙_, subst}
 use mathlib.Core.Logic.{⊎-elim}
-use mathlib.Core.Bool.{Bool, true, false, cond}
+use mathlib.Core.Bool.{true, false}
 use mathlib.Core.List.{[], _∷_}
 use lib.Dec.{ltb}
 use borrow.Author.Tests.{ltb-true, ltb-false}
@@ -14,7 +14,7 @@ use Rattle.answers.specs.declared.Break.{Break}
 use Rattle.answers.specs.declared.Break.the-variants.{Fine, Broken}
 use Rattle.chip.specs.declared.Chip.{Chip}
 use Rattle.rules.specs.Past.{Past, edge, number, _∈_, here, there}
-use Rattle.rules.specs.Search.{short, lookBack}
+use Rattle.rules.specs.Search.{lookBack}
 use Rattle.rules.specs.Deadlines.{deadlineAt}
 use Rattle.rules.specs.Verdict.{recordAt, numberAt, Outcome, clean, stop, say, brokenAt, keep, verdictTo}
 use Rattle.rules.proofs.Generic.{decide}
@@ -101,12 +101,12 @@ module _ (C : Chip) (q : Past) where
   ]
 
   -- clean exactly when no edge up to the end is broken
-  pub Clean-iff : ℕ → Type 0
+  abbrev pub Clean-iff : ℕ → Type 0
   Clean-iff t = (verdictTo C q t ≡ clean → (s : ℕ) → 0 < s → s ≤ t → brokenAt C q s ≡ clean)
       × (((s : ℕ) → 0 < s → s ≤ t → brokenAt C q s ≡ clean) → verdictTo C q t ≡ clean)
 
   pub clean-iff : (t : ℕ) → Clean-iff t
-  unfolding Clean-iff verdictTo
+  unfolding verdictTo
   clean-iff t = (clean-edges t, λ f. skip-to 0 t (omega arith) f refl)
 
   -- a broken verdict's edge is broken, and no edge before it is

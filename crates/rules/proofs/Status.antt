@@ -53,11 +53,11 @@ module _ (C : Chip) where
   start-mark-num (q ∷ s) = refl
 
   -- the same over the events: the later of the latest ACT and the latest closing event
-  abbrev statusBy : Past → Past → ℕ → Bank
+  abbrev pub statusBy : Past → Past → ℕ → Bank
   statusBy a c t = cond (ltb (number c) (number a)) (Open (edge a) (number a) (addressOf a))
       (cond (leb (start C c) t) Idle (Closing (edge a) (number a) (addressOf a)))
 
-  status-by : (b t : ℕ) (p : Past) → status C b p t ≡ statusBy (latest (actOn b) p) (latest (closes b) p) t
+  pub status-by : (b t : ℕ) (p : Past) → status C b p t ≡ statusBy (latest (actOn b) p) (latest (closes b) p) t
   unfolding seen start
   status-by b t [] = rw (le-leb 0 t (omega arith))
   status-by b t (r ∷ p) = ⊎-elim
