@@ -7,6 +7,7 @@
 //! reference burst                       lines "length start type direction [lent]" to answers
 //! reference generate SEED COUNT [small] recordings, a line each: hex, end, lent
 //! reference count SEED COUNT [small]    how often each answer comes
+//! reference rounds SEED RECORDS         a long clean recording, as bytes
 //! reference functions SEED COUNT WORDS  compares the C harness that WORDS start; `few` for COUNT's small ones only
 //! reference few SEED COUNT WORDS
 //! reference programs SEED COUNT WORDS   compares the program, a process for each recording
@@ -34,6 +35,7 @@ mod random;
 mod recording;
 mod registers;
 mod requests;
+mod rounds;
 mod rules;
 mod settings;
 mod shrink;
@@ -70,6 +72,10 @@ fn done(words: &[&str]) -> Result<bool, String> {
         ["generate", seed, count, "small"] => generate(seed, count, true),
         ["count", seed, count] => count::count(seed, count, false),
         ["count", seed, count, "small"] => count::count(seed, count, true),
+        ["rounds", seed, records] => {
+            let bytes = rounds::rounds(number(seed)?, number(records)?)?;
+            stdout().write_all(&bytes).map(|_| true).map_err(|e| e.to_string())
+        }
         ["functions", seed, count, ref words @ ..] => compare::functions(number(seed)?, number(count)?, false, words),
         ["few", seed, count, ref words @ ..] => compare::functions(number(seed)?, number(count)?, true, words),
         ["programs", seed, count, ref words @ ..] => programs::programs(number(seed)?, number(count)?, words),
