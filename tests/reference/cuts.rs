@@ -6,7 +6,7 @@ use crate::generate::case;
 use crate::header::read_header;
 use crate::programs::printed;
 use crate::random::Random;
-use crate::recording::section_refusal;
+use crate::recording::{section_refusal, MOST_RECORDS};
 use crate::text::{answer_text, hex};
 use crate::verdict::{judge, verdict_line, Closing};
 
@@ -60,6 +60,18 @@ fn odd_section(random: &mut Random, rest: &[u8]) -> Vec<u8> {
         section.extend((0..random.between(1, 5)).map(|_| 0x5A));
     }
     section
+}
+
+/// Sections up to the limit of records but for the last 64; then 65 records (7), 64, one more (7), none. The steps are long,
+/// so that the debt breaks at once and the reference has little to look back over.
+fn cut_at_the_limit() -> Cut {
+    const NOP: [u8; 6] = [0x10, 0, 0, 0xB8, 0, 0];
+    const LONGEST: usize = 65536 / 6;
+    let full = (MOST_RECORDS - 64) / LONGEST;
+    let rest = MOST_RECORDS - 64 - full * LONGEST;
+    let sizes = std::iter::repeat(LONGEST).take(full).chain([rest, 65, 64, 1, 0]);
+    let sections = sizes.map(|records| NOP.repeat(records)).collect();
+    Cut { header: vec![0x14, 0x05, 0xDC, 0, 0, 0], sections, end: None }
 }
 
 impl Cut {
@@ -134,7 +146,8 @@ fn difference(words: &[&str], cut: &Cut) -> Result<Option<String>, String> {
 /// True if the program for cuts prints the reference's lines for every case, all of them in one process.
 pub fn cuts(seed: u64, count: u64, words: &[&str]) -> Result<bool, String> {
     let mut random = Random::new(seed ^ 0xC075);
-    let cuts: Vec<Cut> = (0..count).map(|index| cut(&mut random, &case(seed, index, true))).collect();
+    let mut cuts: Vec<Cut> = (0..count).map(|index| cut(&mut random, &case(seed, index, true))).collect();
+    cuts.push(cut_at_the_limit());
     let text = printed(words, &cuts.iter().flat_map(Cut::bytes).collect::<Vec<u8>>())?;
     let mut lines = text.lines();
     for cut in &cuts {
@@ -149,6 +162,6 @@ pub fn cuts(seed: u64, count: u64, words: &[&str]) -> Result<bool, String> {
     }
     let ended = lines.next().is_none();
     let sections: usize = cuts.iter().map(|cut| cut.sections.len()).sum();
-    println!("cuts: {count} recordings in {sections} sections, seed {seed}: 0 differ");
+    println!("cuts: {count} recordings and one at the limit, in {sections} sections, seed {seed}: 0 differ");
     Ok(ended)
 }
