@@ -18,7 +18,7 @@ pub fn count(seed: &str, count: &str, small: bool) -> Result<bool, String> {
     let mut long = 0;
     for index in 0..count {
         let case = case(seed, index, small);
-        let (answer, records) = match judge(&case.recording, Some(case.end), 20) {
+        let (answer, records) = match judge(&case.recording, Some(case.end), case.lent) {
             Err(refusal) => ((2, refusal), case.recording.len() / 6),
             Ok(closing) => match closing.verdict {
                 Verdict::Clean { records, .. } => ((0, 0), records),

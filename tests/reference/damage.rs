@@ -4,11 +4,12 @@ use crate::header::{least_period, GREATEST_PERIOD};
 use crate::random::Random;
 use crate::recording::{read_records, Record, GREATEST_END, MOST_RECORDS};
 
-/// A recording and its end edge.
+/// A recording, its end edge, and the length of the buffer lent for its verdict.
 #[derive(Clone)]
 pub struct Case {
     pub recording: Vec<u8>,
     pub end: u64,
+    pub lent: usize,
 }
 
 impl Case {
@@ -20,7 +21,7 @@ impl Case {
 
 /// A field flipped, a record dropped, doubled, swapped, a spacing shortened.
 pub fn damage(random: &mut Random, case: &mut Case) {
-    let records = case.recording.len() / 6 - 1;
+    let records = (case.recording.len() / 6).saturating_sub(1);
     if records < 2 {
         return;
     }
@@ -67,6 +68,7 @@ pub fn make_fault(random: &mut Random, case: &mut Case, refusal: u32) {
         6 => zero_a_step(random, &mut case.recording),
         7 => pass_the_limit(random, &mut case.recording),
         8 => move_end_outside(random, case),
+        9 => case.lent = random.below(20) as usize,
         _ => {}
     }
 }

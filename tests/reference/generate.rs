@@ -18,11 +18,18 @@ const CLOSING: [u64; 9] = [30, 22, 22, 6, 3, 4, 2, 2, 2];
 const SLEEPER: [u64; 9] = [5, 6, 3, 4, 12, 3, 2, 25, 5];
 
 /// One recording in this many is over the limit or just at it: its line has twelve million digits.
-const OVER_THE_LIMIT_EVERY: u64 = 500;
+const OVER_THE_LIMIT_EVERY: u64 = 250;
 const LONG_EVERY: u64 = 1000;
 
-/// Refusals that hold beside 7; 0 is 7 alone, 9 the limit just kept.
-const BESIDE_THE_LIMIT: [u32; 12] = [0, 6, 8, 0, 5, 6, 8, 2, 0, 3, 4, 9];
+/// Refusals that hold beside 7, in turn; 0 is 7 alone.
+const BESIDE_THE_LIMIT: [u32; 12] = [0, 2, 3, 4, 5, 6, 8, 9, 0, 6, 8, LIMIT_KEPT];
+const LIMIT_KEPT: u32 = 100;
+
+/// Faults of a recording of any length, in an order in which making one leaves those before it.
+const FAULTS: [u32; 8] = [2, 3, 4, 6, 5, 8, 9, 1];
+
+/// Lent lengths that do, the least most often.
+const ENOUGH: [usize; 5] = [20, 20, 21, 24, 60];
 
 /// The case of this seed and index; `small` leaves out the recordings at and over the limit.
 pub fn case(seed: u64, index: u64, small: bool) -> Case {
@@ -109,7 +116,8 @@ fn aimed(random: &mut Random, rule: u8, length: usize, slip_after: usize) -> Cas
         }
     }
     let end = end_for(random, &controller);
-    Case { recording: [&header_bytes(&header)[..], &controller.section].concat(), end }
+    let lent = random.pick(&ENOUGH);
+    Case { recording: [&header_bytes(&header)[..], &controller.section].concat(), end, lent }
 }
 
 /// The last record's edge, later, at the next deadline, much later, too early, 2^44, above it.
@@ -141,21 +149,15 @@ fn damaged(random: &mut Random) -> Case {
     case
 }
 
-/// One to three refusals hold at once. With fewer than six bytes only 8 can hold beside 1.
+/// One to three refusals hold at once.
 fn malformed(random: &mut Random) -> Case {
     let rule = random.pick(&[0, 0, 1, 24, 25]);
     let length = random.below(30) as usize;
     let mut case = aimed(random, rule, length, 4);
-    let mut faults = match random.below(8) {
-        0 => vec![1],
-        1 => vec![1, 8],
-        2 | 3 => vec![random.pick(&[2, 3, 4, 5, 6, 8])],
-        _ => (0..random.between(2, 3)).map(|_| random.pick(&[2, 3, 4, 5, 6, 8])).collect(),
-    };
-    faults.sort();
+    let wanted: Vec<u32> = (0..random.pick(&[1, 2, 2, 2, 3])).map(|_| random.pick(&FAULTS)).collect();
     case.end = case.last_edge();
-    for fault in faults {
-        make_fault(random, &mut case, fault);
+    for fault in FAULTS.iter().filter(|fault| wanted.contains(fault)) {
+        make_fault(random, &mut case, *fault);
     }
     case
 }
@@ -163,7 +165,7 @@ fn malformed(random: &mut Random) -> Case {
 fn around_the_limit(random: &mut Random, turn: u64) -> Case {
     let mut case = aimed(random, 0, 20, 0);
     let beside = BESIDE_THE_LIMIT[turn as usize % BESIDE_THE_LIMIT.len()];
-    if beside == 9 {
+    if beside == LIMIT_KEPT {
         fill_to_the_limit(&mut case.recording);
         case.end = case.last_edge();
         return case;
@@ -192,7 +194,7 @@ fn noise(random: &mut Random) -> Case {
             recording.extend([0, 0, step, pins, random.next() as u8, random.next() as u8]);
         }
     }
-    let mut case = Case { recording, end: 0 };
+    let mut case = Case { recording, end: 0, lent: random.pick(&ENOUGH) };
     case.end = case.last_edge() + random.pick(&[0, 0, 0, 1, 500]);
     case
 }

@@ -1,30 +1,46 @@
 //! An independent reference for the judge of DDR3 command recordings, written from the rules paper alone.
 //!
-//! reference vectors DIR              checks the vector files; 1 on a difference
-//! reference judge                    lines "hex end [lent]" to answers
-//! reference program                  lines "hex" to the program's line
-//! reference register                 lines "header number code [lent]" (hex, decimal, hex) to answers
-//! reference burst                    lines "length start type direction [lent]" to answers
-//! reference generate SEED COUNT [small]
-//! reference count SEED COUNT [small]
+//! reference vectors DIR                 checks the vector files; 1 on a difference
+//! reference judge                       lines "hex end [lent]" to answers
+//! reference program                     lines "hex" to the program's line
+//! reference register                    lines "header number code [lent]" (hex, decimal, hex) to answers
+//! reference burst                       lines "length start type direction [lent]" to answers
+//! reference generate SEED COUNT [small] recordings, a line each: hex, end, lent
+//! reference count SEED COUNT [small]    how often each answer comes
+//! reference rounds SEED RECORDS         a long clean recording, as bytes
+//! reference functions SEED COUNT WORDS  compares the C harness that WORDS start; `few` for COUNT's small ones only
+//! reference few SEED COUNT WORDS
+//! reference programs SEED COUNT WORDS   compares the program, a process for each recording
+//! reference cuts SEED COUNT WORDS       compares the program for cuts
 //!
-//! An empty recording or header is written "-", the last record's edge as an end "-".
+//! An empty recording or header is written "-", the last record's edge as an end "-". `small` and `few` leave out the
+//! recordings at the limit of records.
 
 mod banks;
 mod bursts;
+mod calls;
+mod compare;
 mod controller;
 mod count;
+mod cuts;
 mod damage;
 mod deadlines;
+mod features;
 mod generate;
+mod harness;
 mod header;
+mod programs;
 mod proposals;
 mod random;
 mod recording;
 mod registers;
+mod requests;
+mod rounds;
 mod rules;
 mod settings;
+mod shrink;
 mod slips;
+mod tally;
 mod text;
 mod vectors;
 mod verdict;
@@ -35,7 +51,18 @@ use std::process::ExitCode;
 fn main() -> ExitCode {
     let arguments: Vec<String> = std::env::args().skip(1).collect();
     let words: Vec<&str> = arguments.iter().map(String::as_str).collect();
-    let done = match words[..] {
+    match done(&words) {
+        Ok(true) => ExitCode::SUCCESS,
+        Ok(false) => ExitCode::from(1),
+        Err(message) => {
+            eprintln!("{message}");
+            ExitCode::from(2)
+        }
+    }
+}
+
+fn done(words: &[&str]) -> Result<bool, String> {
+    match words[..] {
         ["vectors", directory] => vectors::check_vectors(directory),
         ["judge"] => answer_lines(judge_line),
         ["program"] => answer_lines(program_answer),
@@ -45,15 +72,15 @@ fn main() -> ExitCode {
         ["generate", seed, count, "small"] => generate(seed, count, true),
         ["count", seed, count] => count::count(seed, count, false),
         ["count", seed, count, "small"] => count::count(seed, count, true),
-        _ => Err("reference vectors DIR | judge | program | register | burst | generate SEED COUNT | count SEED COUNT".into()),
-    };
-    match done {
-        Ok(true) => ExitCode::SUCCESS,
-        Ok(false) => ExitCode::from(1),
-        Err(message) => {
-            eprintln!("{message}");
-            ExitCode::from(2)
+        ["rounds", seed, records] => {
+            let bytes = rounds::rounds(number(seed)?, number(records)?)?;
+            stdout().write_all(&bytes).map(|_| true).map_err(|e| e.to_string())
         }
+        ["functions", seed, count, ref words @ ..] => compare::functions(number(seed)?, number(count)?, false, words),
+        ["few", seed, count, ref words @ ..] => compare::functions(number(seed)?, number(count)?, true, words),
+        ["programs", seed, count, ref words @ ..] => programs::programs(number(seed)?, number(count)?, words),
+        ["cuts", seed, count, ref words @ ..] => cuts::cuts(number(seed)?, number(count)?, words),
+        _ => Err("main.rs tells what can be asked".into()),
     }
 }
 
@@ -119,7 +146,7 @@ fn generate(seed: &str, count: &str, small: bool) -> Result<bool, String> {
     let mut out = BufWriter::new(stdout().lock());
     for index in 0..number(count)? {
         let case = generate::case(number(seed)?, index, small);
-        writeln!(out, "{} {}", text::hex(&case.recording), case.end).map_err(|e| e.to_string())?;
+        writeln!(out, "{} {} {}", text::hex(&case.recording), case.end, case.lent).map_err(|e| e.to_string())?;
     }
     out.flush().map_err(|e| e.to_string())?;
     Ok(true)

@@ -1,7 +1,6 @@
-/* What the C tests share: counting and telling, and lent buffers with guard bytes before and behind. */
-#ifndef LENT_H
-#define LENT_H
-
+/* What the C tests share: counting checks, and buffers to lend. A check is one call on one buffer. Each call is made in a
+ * buffer that has guard bytes before and behind it, under two patterns, and in a heap block of the lent length, where
+ * valgrind sees any byte that is touched outside of it. */
 #include "../../include/manilaply.h"
 
 /* What is used of C: on Arm the kit has no headers to include. */
@@ -43,7 +42,7 @@ static void count(int good, const char *table, unsigned long row, uint32_t wante
     wrong++;
     if (wrong > 10)
         return;
-    say(TEST ": ");
+    say("  ");
     say(table);
     say(", row ");
     say_number(row);
@@ -93,16 +92,18 @@ static int holds(unsigned kind, uint8_t *out, size_t length, const uint8_t *byte
             good &= (i >= GUARD && i < GUARD + length) || guarded[i] == pattern(kind, i);
     return good;
 }
+/* ---- the end */
 
-/* The last line of a test, and what it answers. */
-static int told(void)
+#define ROWS(table) (sizeof(table) / sizeof(table)[0])
+
+/* Tells how many checks there were and how many failed, and answers with the status. */
+static int told(const char *test)
 {
-    say(TEST ": ");
+    say(test);
+    say(": ");
     say_number(checks);
     say(" checks, ");
     say_number(wrong);
     say(" wrong\n");
     return wrong != 0;
 }
-
-#endif

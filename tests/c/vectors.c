@@ -1,12 +1,10 @@
-/* Calls manilaply_judge from C: on every whole recording of tests/vectors/whole.txt, and on every refusal and each pair of
- * refusals that can hold at once. tests/c/run builds it and runs it from the repository's root. */
-#define TEST "recording"
-#include "lent.h"
+/* Judging from C every whole recording of tests/vectors/whole.txt. Run from the repository's root. */
+#include "checks.h"
 
 int open(const char *path, int how, ...);
 long read(int file, void *bytes, size_t length);
 
-enum { TWENTY = 20, HEADER = 6, RECORD = 6, LIMIT = 1048576 };
+enum { TWENTY = 20, HEADER = 6, RECORD = 6 };
 
 /* One judging on a buffer of out_len bytes, of each kind; the recording is lent in a block of its own and must stay. */
 static void judging(const char *table, unsigned long row, const uint8_t *recording, size_t length,
@@ -109,76 +107,8 @@ static void by_vectors(void)
     count(row >= 1000 && size < sizeof text, "vectors, how many", row, 0, 0);
 }
 
-/* ---- refusals */
-
-/* In the order in which they are checked. */
-static const uint32_t ORDER[] = {9, 1, 2, 3, 4, 5, 7, 6, 8};
-
-enum { CHECKS = 9, RECORDS = 3 };
-
-/* A clean recording of NOPs, each 10 edges after the one before, in which a check of ORDER fails for each bit of faults. */
-static void refusal(unsigned faults)
-{
-    static uint8_t bytes[HEADER + RECORD * (LIMIT + 1) + 1];
-    static const uint8_t ZEROS[TWENTY] = {0};
-    size_t records = faults & 1u << 6 ? LIMIT + 1 : RECORDS, at;
-    size_t length = HEADER + RECORD * records, first = CHECKS;
-    uint64_t end = 10 * (uint64_t)records;
-    bytes[0] = faults & 1u << 2 ? 0x24 : 0x14;
-    bytes[1] = faults & 1u << 4 ? 0x01 : 0x05;
-    bytes[2] = 0xdc;
-    bytes[5] = faults & 1u << 3 ? 1 : 0;
-    for (at = HEADER; at < length; at += RECORD) {
-        bytes[at + 2] = 10;
-        bytes[at + 3] = 0xb8;
-    }
-    if (faults & 1u << 7) {
-        bytes[HEADER + RECORD + 2] = 0;
-        end -= 10;
-    }
-    length = faults & 1u << 1 ? HEADER - 1 : faults & 1u << 5 ? length + 1 : length;
-    if (faults & 1u << 8)
-        end = faults & 1 ? 17592186044417 : end - 1;
-    while (first-- > 0)
-        if (faults & 1u << first)
-            at = first;
-    judging("refusals", faults, bytes, length, end, faults & 1 ? 19 : 20, ORDER[at], ZEROS);
-}
-
-static void refusals(void)
-{
-    unsigned one, other;
-    for (one = 0; one < CHECKS; one++)
-        for (other = one; other < CHECKS; other++)
-            refusal(1u << one | 1u << other);
-}
-
-/* The greatest end edge, one more, and the last record's edge. */
-static void ends(void)
-{
-    static const uint8_t HEAD[] = {0x14, 0x05, 0xdc, 0, 0, 0};
-    static const uint8_t NONE[TWENTY] = {0};
-    static const uint8_t LATE[TWENTY] = {1, 25, 0, 0, 0, 0, 0, 0, 0, 0, 0, 0, 0xb6, 0xd0, 0, 0, 8, 0, 0, 9};
-    judging("no record, end 0", 0, HEAD, HEADER, 0, TWENTY, 0, NONE);
-    judging("no record, end 2^44", 0, HEAD, HEADER, 17592186044416, TWENTY, 0, LATE);
-    judging("no record, end 2^44 and one", 0, HEAD, HEADER, 17592186044417, TWENTY, 8, NONE);
-}
-
-/* A null pointer with length 0. */
-static void of_null(void)
-{
-    uint8_t out[TWENTY];
-    uint32_t got = manilaply_judge(0, 0, 0, 0, 0);
-    count(got == 9, "null and no room", 0, 9, got);
-    got = manilaply_judge(0, 0, 0, out, TWENTY);
-    count(got == 1, "null", 0, 1, got);
-}
-
 int main(void)
 {
     by_vectors();
-    refusals();
-    ends();
-    of_null();
-    return told();
+    return told("vectors");
 }

@@ -1,0 +1,112 @@
+/* The six header bytes, the clock counts, the mode registers. */
+#include "judge.h"
+
+/* Picoseconds, a row a bin; pairs are the 1K page and the 2K page. */
+static const struct {
+    int least_period, rcd, rc, ras, rrd[2], faw[2], cke;
+} BINS[4] = {
+    {1875, 13125, 50625, 37500, {7500, 10000}, {37500, 50000}, 5625},
+    {1500, 13125, 49500, 36000, {6000, 7500}, {30000, 45000}, 5625},
+    {1250, 13125, 48750, 35000, {6000, 7500}, {30000, 40000}, 5000},
+    {1070, 12840, 47080, 34240, {5000, 6000}, {27000, 35000}, 5000},
+};
+
+enum { GREATEST_PERIOD = 3300 };
+
+int read_header(struct header *h, const uint8_t *six)
+{
+    if (six[0] >> 4 != 1)
+        return 2;
+    if ((six[1] & 0x70) != 0 || six[3] != 0 || six[4] != 0 || six[5] != 0)
+        return 3;
+    h->bin = six[0] >> 2 & 3;
+    h->density = six[0] >> 1 & 1;
+    h->width = six[0] & 1;
+    h->hot = six[1] >> 7;
+    h->period = (six[1] & 15) << 8 | six[2];
+    return h->period < BINS[h->bin].least_period || h->period > GREATEST_PERIOD ? 4 : 0;
+}
+
+static int32_t up(int period, int time, int32_t least)
+{
+    int32_t clocks = (time + period - 1) / period;
+    return clocks < least ? least : clocks;
+}
+
+void count_clocks(struct counts *t, const struct header *h)
+{
+    int period = h->period, bin = h->bin, refresh = h->density ? 160000 : 110000;
+    t->rcd = up(period, BINS[bin].rcd, 0);
+    t->rp = t->rcd;
+    t->rc = up(period, BINS[bin].rc, 0);
+    t->ras = up(period, BINS[bin].ras, 0);
+    t->rrd = up(period, BINS[bin].rrd[h->width], 4);
+    t->faw = up(period, BINS[bin].faw[h->width], 0);
+    t->cke = up(period, BINS[bin].cke, 3);
+    t->rtp = t->wtr = up(period, 7500, 4);
+    t->wr = up(period, 15000, 0);
+    t->mod = up(period, 15000, 12);
+    t->rfc = up(period, refresh, 0);
+    t->xs = up(period, refresh + 10000, 5);
+    t->zq_long = up(period, 320000, 256);
+    t->zq_short = up(period, 80000, 64);
+    t->most_ras = 70000000 / period;
+    t->refi = (h->hot ? 3900000 : 7800000) / period;
+}
+
+/* By A6A5A4A2; 0 is no latency. */
+static const int CL[16] = {0, 12, 5, 0, 6, 0, 7, 0, 8, 0, 9, 0, 10, 0, 11, 0};
+static const int WRITE_RECOVERY[8] = {16, 5, 6, 7, 8, 10, 12, 14};
+
+static int cl_of(unsigned code)
+{
+    return CL[(code >> 4 & 7) << 1 | (code >> 2 & 1)];
+}
+
+static int cl_allowed(const struct header *h, int cl)
+{
+    int p = h->period;
+    switch (cl) {
+    case 5: return p >= 3000 && h->bin != 3;
+    case 6: return p >= 2500;
+    case 7: case 8: return p >= 1875 && p < 2500;
+    case 9: case 10: return p >= 1500 && p < 1875 && h->bin != 0;
+    case 11: return p >= 1250 && p < 1500 && h->bin >= 2;
+    case 12: return p < 1250 && h->bin == 3;
+    default: return 0;
+    }
+}
+
+static int cwl_of_period(int p)
+{
+    return p >= 2500 ? 5 : p >= 1875 ? 6 : p >= 1500 ? 7 : p >= 1250 ? 8 : 9;
+}
+
+int code_allowed(const struct header *h, const struct counts *t, unsigned number, unsigned code)
+{
+    switch (number) {
+    case 0:
+        return (code & 0xE080) == 0 && (code & 3) != 3 && cl_allowed(h, cl_of(code)) &&
+               WRITE_RECOVERY[code >> 9 & 7] >= t->wr;
+    case 1:
+        return (code & 0xE5A1) == 0 && (code >> 3 & 3) != 3 && (code & 0x0240) != 0x0240 &&
+               ((code & 0x0800) == 0 || h->width == 0);
+    case 2:
+        return (code & 0xF900) == 0 && (int)(code >> 3 & 7) + 5 == cwl_of_period(h->period) &&
+               (code & 0x0600) != 0x0600 && (code & 0x00C0) != 0x00C0;
+    case 3: return code == 0;
+    default: return 0;
+    }
+}
+
+void set_registers(struct setting *s, const uint16_t *code)
+{
+    int al = code[1] >> 3 & 3;
+    s->cl = cl_of(code[0]);
+    s->al = al == 0 ? 0 : s->cl - al;
+    s->cwl = (code[2] >> 3 & 7) + 5;
+    s->wr = WRITE_RECOVERY[code[0] >> 9 & 7];
+    s->h = (code[0] & 3) == 2 ? 2 : 4;
+    s->b = s->h;
+    s->by_a12 = (code[0] & 3) == 1;
+}

@@ -1,0 +1,56 @@
+/* The C judge as a program: a recording on standard input, the header first and then sections of 6,000 bytes, to one line
+ * on standard output, as the proved program does it. With the word `state` it prints the size of its state. */
+#include "judge.h"
+
+#include <inttypes.h>
+#include <stdio.h>
+#include <unistd.h>
+
+enum { SECTION = 6000 };
+
+/* As many bytes as there are, up to the length. */
+static size_t read_full(uint8_t *bytes, size_t length)
+{
+    size_t at = 0;
+    while (at < length) {
+        ssize_t n = read(0, bytes + at, length - at);
+        if (n <= 0)
+            break;
+        at += (size_t)n;
+    }
+    return at;
+}
+
+static int judge_input(struct verdict *v)
+{
+    static struct judge j;
+    static uint8_t space[SECTION];
+    size_t n = read_full(space, SIX);
+    int refused = judge_open(&j, space, n);
+    do {
+        n = refused ? 0 : read_full(space, SECTION);
+        if (!refused)
+            refused = judge_section(&j, space, n);
+    } while (n == SECTION);
+    return refused ? refused : judge_close(&j, j.edge, v);
+}
+
+int main(int count, char **words)
+{
+    struct verdict v;
+    int refused;
+    (void)words;
+    if (count > 1) {
+        printf("%zu\n", sizeof(struct judge));
+        return 0;
+    }
+    refused = judge_input(&v);
+    if (refused)
+        printf("refused %d\n", refused);
+    else if (v.broken)
+        printf("broken %d %" PRIu32 " %" PRIu32 " %" PRId64 " %" PRId64 " %" PRId64 "\n", v.rule, v.record, v.partner, v.edge,
+               v.needed, v.found);
+    else
+        printf("clean %" PRIu32 " %" PRId64 "\n", v.record, v.edge);
+    return 0;
+}

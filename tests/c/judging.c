@@ -1,0 +1,162 @@
+/* Judging a whole recording from C, on good and bad input: each answer and each byte of the lent buffers is held to the
+ * tables below, which are written from 01's examples and its list of refusals. */
+#include "checks.h"
+
+enum { VERDICT = 20, SIX = 6, LIMIT = 1048576 };
+
+#define HEADER 0x14, 0x05, 0xDC, 0, 0, 0
+#define REGISTERS_AND_ACT \
+    0, 0, 1, 0x82, 0, 0x10, 0, 0, 4, 0x83, 0, 0, 0, 0, 4, 0x81, 0, 0, 0, 0, 4, 0x80, 0x0B, 0x50, 0, 0, 12, 0x9B, 0x01, 0x23
+#define READ 0, 1, 0xF4, 0xAB, 0, 0
+
+static const uint8_t P8[] = {HEADER, REGISTERS_AND_ACT, READ, 0, 0, 4, 0x93, 0, 0};
+static const uint8_t P9[] = {HEADER, REGISTERS_AND_ACT, READ, 0, 0, 5, 0x93, 0, 0};
+static const uint8_t P10[] = {HEADER, REGISTERS_AND_ACT, READ, 0, 0, 5, 0x93, 0, 0, 0, 0, 4, 0x93, 0, 0, 0, 0, 5, 0x9B, 0, 0};
+static const uint8_t P11[] = {HEADER};
+static const uint8_t P12[] = {HEADER, REGISTERS_AND_ACT};
+
+static const uint64_t GREATEST_END = (uint64_t)1 << 44;
+
+/* outcome, rule, record, partner, edge, needed, found; all 0 where it is refused */
+static const struct {
+    const uint8_t *recording;
+    size_t length;
+    uint64_t end;
+    uint32_t wanted;
+    uint64_t verdict[7];
+} CASES[] = {
+    {P8, sizeof P8, 528, 8, {0}},
+    {P8, sizeof P8, 529, 0, {1, 10, 7, 6, 529, 5, 4}},
+    {P8, sizeof P8, 100000, 0, {1, 10, 7, 6, 529, 5, 4}},
+    {P9, sizeof P9, 529, 8, {0}},
+    {P9, sizeof P9, 530, 0, {0, 0, 7, 0, 530, 0, 0}},
+    {P9, sizeof P9, 46799, 0, {0, 0, 7, 0, 46799, 0, 0}},
+    {P10, sizeof P10, 539, 0, {1, 5, 9, 8, 539, 9, 5}},
+    {P11, sizeof P11, 0, 0, {0, 0, 0, 0, 0, 0, 0}},
+    {P11, sizeof P11, 46799, 0, {0, 0, 0, 0, 46799, 0, 0}},
+    {P11, sizeof P11, 46800, 0, {1, 25, 0, 0, 46800, 8, 9}},
+    {P11, sizeof P11, (uint64_t)1 << 44, 0, {1, 25, 0, 0, 46800, 8, 9}},
+    {P11, sizeof P11, ((uint64_t)1 << 44) + 1, 8, {0}},
+    {P11, sizeof P11, ~(uint64_t)0, 8, {0}},
+    {P12, sizeof P12, 24, 8, {0}},
+    {P12, sizeof P12, 46691, 0, {0, 0, 5, 0, 46691, 0, 0}},
+    {P12, sizeof P12, 46692, 0, {1, 24, 0, 5, 46692, 46666, 46667}},
+    {P8, 5, 0, 1, {0}},
+    {P8, 7, 0, 5, {0}},
+    {P8, sizeof P8 - 1, 529, 5, {0}},
+};
+
+static const int WIDTHS[] = {1, 1, 3, 3, 6, 3, 3};
+
+static void as_bytes(const uint64_t *fields, uint8_t *bytes)
+{
+    int i, left;
+    for (i = 0; i < 7; i++)
+        for (left = WIDTHS[i]; left > 0; left--)
+            *bytes++ = (uint8_t)(fields[i] >> (8 * (left - 1)));
+}
+
+/* One judging on a buffer of out_len bytes, of each kind. The recording must stay as it is. */
+static void judging(const char *table, unsigned long row, const uint8_t *recording, size_t length, uint64_t end,
+                    size_t out_len, uint32_t wanted, const uint8_t *verdict)
+{
+    unsigned kind;
+    for (kind = 0; kind <= BLOCK; kind++) {
+        uint8_t *out = lend(kind, out_len), *lent = malloc(length);
+        uint32_t got;
+        int good = 1;
+        size_t i;
+        for (i = 0; i < length; i++)
+            lent[i] = recording[i];
+        got = manilaply_judge(lent, length, end, out, out_len);
+        for (i = 0; i < length; i++)
+            good &= lent[i] == recording[i];
+        free(lent);
+        good &= holds(kind, out, out_len, verdict, wanted == 0 ? VERDICT : 0);
+        count(good && got == wanted, table, row, wanted, got);
+    }
+}
+
+static void judging_by_table(void)
+{
+    unsigned long row;
+    size_t out_len;
+    for (row = 0; row < ROWS(CASES); row++) {
+        uint8_t verdict[VERDICT];
+        as_bytes(CASES[row].verdict, verdict);
+        for (out_len = 0; out_len <= MOST; out_len++)
+            judging("judging", row, CASES[row].recording, CASES[row].length, CASES[row].end, out_len,
+                    out_len < VERDICT ? 9 : CASES[row].wanted, verdict);
+    }
+}
+
+/* In the order of the checks. */
+static const uint32_t ORDER[] = {9, 1, 2, 3, 4, 5, 7, 6, 8};
+enum { NINE = 1, ONE = 2, TWO = 4, THREE = 8, FOUR = 16, FIVE = 32, SEVEN = 64, SIXTH = 128, EIGHT = 256, SETS = 512 };
+
+static uint32_t first_of(unsigned set)
+{
+    unsigned i;
+    for (i = 0; i < ROWS(ORDER); i++)
+        if (set >> i & 1)
+            return ORDER[i];
+    return 0;
+}
+
+/* A recording of NOPs in which just the refusals of the set hold, bit i for ORDER[i]; with 1, those that its bytes show. */
+static void refused_by(unsigned set, uint8_t *recording)
+{
+    static const uint8_t NOP[SIX] = {0, 0, 1, 0xB8, 0, 0}, GOOD[SIX] = {HEADER};
+    uint8_t clean[VERDICT];
+    uint64_t fields[7] = {0, 0, 3, 0, 3, 0, 0};
+    size_t records = set & SEVEN ? LIMIT + 1 : 3, i;
+    size_t length = set & ONE ? 4 : SIX + records * SIX + (set & FIVE ? 5 : 0);
+    for (i = 0; i < SIX + records * SIX + 5; i++)
+        recording[i] = i < SIX ? GOOD[i] : NOP[i % SIX];
+    if (set & TWO)
+        recording[0] = 0x24;
+    if (set & THREE)
+        recording[1] |= 0x40;
+    if (set & FOUR)
+        recording[2] = 0xDB;
+    if (set & SIXTH)
+        recording[SIX + (records - 1) * SIX + 2] = 0;
+    as_bytes(fields, clean);
+    judging("refusals at once", set, recording, length, set & EIGHT ? GREATEST_END + 1 : set & SEVEN ? 2 * LIMIT : 3,
+            set & NINE ? VERDICT - 1 : VERDICT, first_of(set), clean);
+}
+
+/* With 7 only once each with one other: the recording is long. */
+static void judging_refused(void)
+{
+    uint8_t *recording = malloc((size_t)SIX * (LIMIT + 3));
+    unsigned set;
+    for (set = 0; set < SETS; set++)
+        if ((set & SEVEN) == 0 || ((set & ONE) == 0 && ((set ^ SEVEN) & ((set ^ SEVEN) - 1)) == 0))
+            refused_by(set, recording);
+    free(recording);
+}
+
+/* A null pointer with length 0, for the recording, for out, for both. */
+static void judging_of_null(void)
+{
+    unsigned kind;
+    uint32_t got;
+    for (kind = 0; kind <= BLOCK; kind++) {
+        uint8_t *out = lend(kind, VERDICT);
+        got = manilaply_judge(0, 0, 0, out, VERDICT);
+        count(holds(kind, out, VERDICT, P8, 0) && got == 1, "null recording", kind, 1, got);
+    }
+    got = manilaply_judge(P8, sizeof P8, 529, 0, 0);
+    count(got == 9, "null out", 0, 9, got);
+    got = manilaply_judge(0, 0, 0, 0, 0);
+    count(got == 9, "null recording and out", 0, 9, got);
+}
+
+int main(void)
+{
+    judging_by_table();
+    judging_refused();
+    judging_of_null();
+    return told("judging");
+}

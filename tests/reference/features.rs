@@ -1,0 +1,154 @@
+//! What the generated recordings must have among them, and how often each comes in those that are judged.
+
+use crate::deadlines::debt_at;
+use crate::header::Header;
+use crate::recording::{read_recording, read_records, Command::*, Event};
+use crate::rules::{banks_of_rule_5, fourth_act_back, latest_start, needed};
+use std::collections::BTreeMap;
+
+/// Longer ones are about the limit of records and show nothing else.
+const MOST_RECORDS: usize = 400;
+
+/// No least spacing is longer.
+const LONGEST_SPACING: i64 = 512;
+
+/// Where a table of the paper changes.
+const BORDERS: [i64; 8] = [1070, 1250, 1500, 1641, 1875, 2500, 3000, 3300];
+
+/// Rules whose least spacing can be met to the edge in a clean recording.
+const SPACINGS: std::ops::RangeInclusive<u8> = 4..=22;
+
+#[derive(Default)]
+pub struct Features(BTreeMap<String, u64>);
+
+const SINGLE: [&str; 14] = [
+    "RD, auto precharge",
+    "WR, auto precharge",
+    "PRE of one bank",
+    "PRE of all banks",
+    "PRE after a PRE of the bank",
+    "long ZQ",
+    "short ZQ",
+    "SRE",
+    "SRX",
+    "CKE staying low",
+    "NOP or DES",
+    "MR0 changed after a column",
+    "MR1 changed after a column",
+    "DLL reset after a column",
+];
+
+/// Every feature that a run must have.
+fn all() -> Vec<String> {
+    let mut names: Vec<String> = SINGLE.iter().map(|name| name.to_string()).collect();
+    for n in 0..32 {
+        names.push(format!("bin {}, density {}, width {}, hot {}", n / 8, n / 4 % 2, n / 2 % 2, n % 2));
+    }
+    names.extend(BORDERS.iter().map(|border| format!("period {border}")));
+    names.extend(BORDERS[1..].iter().map(|border| format!("period {}", border - 1)));
+    for n in 0..18 {
+        let command = ["Rd", "Wr"][n / 9];
+        names.push(format!("{command}, AL code {}, burst mode {}", n / 3 % 3, n % 3));
+    }
+    names.extend((-8..=8).map(|debt| format!("REF to debt {debt}")));
+    for rule in SPACINGS {
+        names.push(format!("rule {rule} met to the edge"));
+        names.push(format!("rule {rule} broken by one edge"));
+    }
+    names
+}
+
+fn header_features(header: &Header) -> Vec<String> {
+    let Header { bin, density, width, hot, period } = header;
+    vec![format!("bin {bin}, density {density}, width {width}, hot {}", *hot as u8), format!("period {period}")]
+}
+
+/// What the last record adds.
+fn record_features(header: &Header, past: &[Event]) -> Vec<String> {
+    let Some((last, earlier)) = past.split_last() else { return vec![] };
+    let after_column = || earlier.iter().any(|event| matches!(event.command, Rd | Wr));
+    let single = |place: usize| SINGLE[place].to_string();
+    match last.command {
+        Rd | Wr => {
+            let code = |number: usize| last.registers.0[number].unwrap_or(0);
+            let setting = format!("{:?}, AL code {}, burst mode {}", last.command, code(1) >> 3 & 3, code(0) & 3);
+            let auto = last.a10().then(|| single((last.command == Wr) as usize));
+            std::iter::once(setting).chain(auto).collect()
+        }
+        Pre => {
+            let again =
+                earlier.iter().rev().find(|event| event.bank == last.bank && matches!(event.command, Act | Pre));
+            let again = again.filter(|event| event.command == Pre).map(|_| single(4));
+            std::iter::once(single(2 + last.a10() as usize)).chain(again).collect()
+        }
+        Zq => vec![single(if last.a10() { 5 } else { 6 })],
+        Sre => vec![single(7)],
+        Srx => vec![single(8)],
+        Low => vec![single(9)],
+        Nop | Des => vec![single(10)],
+        Ref => vec![format!("REF to debt {}", debt_at(header, past, last.edge))],
+        Mrs if last.bank < 2 && after_column() => {
+            let before = last.registers.0[last.bank as usize];
+            let changed = before.is_some_and(|code| code != last.a).then(|| single(11 + last.bank as usize));
+            let reset = (last.bank == 0 && last.a >> 8 & 1 == 1).then(|| single(13));
+            changed.into_iter().chain(reset).collect()
+        }
+        _ => vec![],
+    }
+}
+
+/// The rules of which the last record meets the least spacing to the edge.
+fn met_to_the_edge(header: &Header, past: &[Event]) -> Vec<String> {
+    let Some((last, earlier)) = past.split_last() else { return vec![] };
+    let recent = || earlier.iter().rev().take_while(|event| last.edge - event.edge <= LONGEST_SPACING);
+    let exact = |rule: u8| match rule {
+        5 => {
+            latest_start(header, earlier, &banks_of_rule_5(last)).map(|(start, _)| start + header.t_rp())
+                == Some(last.edge)
+        }
+        8 => last.command == Act && fourth_act_back(earlier).is_some_and(|act| act.edge + header.t_faw() == last.edge),
+        _ => recent().any(|event| needed(header, rule, event, last) == Some(last.edge - event.edge)),
+    };
+    SPACINGS.filter(|rule| exact(*rule)).map(|rule| format!("rule {rule} met to the edge")).collect()
+}
+
+fn number(bytes: &[u8]) -> u64 {
+    bytes.iter().fold(0, |number, byte| number << 8 | *byte as u64)
+}
+
+impl Features {
+    /// A recording that is judged, and its verdict's 20 bytes.
+    pub fn add(&mut self, recording: &[u8], verdict: &[u8]) {
+        let Ok((header, section)) = read_recording(recording) else { return };
+        if section.len() / 6 > MOST_RECORDS {
+            return;
+        }
+        let mut names = header_features(&header);
+        let (outcome, rule, edge) = (verdict[0], verdict[1], number(&verdict[8..14]) as i64);
+        let mut past = vec![];
+        for record in read_records(section) {
+            past.push(Event::after(&past, &record));
+            if outcome == 1 && past[past.len() - 1].edge >= edge {
+                break;
+            }
+            names.extend(record_features(&header, &past));
+            names.extend(met_to_the_edge(&header, &past));
+        }
+        let by_one = number(&verdict[14..17]) == number(&verdict[17..20]) + 1;
+        names.extend((outcome == 1 && by_one).then(|| format!("rule {rule} broken by one edge")));
+        for name in names {
+            *self.0.entry(name).or_default() += 1;
+        }
+    }
+
+    /// Prints how many of the features came and the rarest; the list of those that never came.
+    pub fn report(&self) -> Vec<String> {
+        let times = |name: &String| self.0.get(name).copied().unwrap_or(0);
+        let names = all();
+        let (missing, came): (Vec<String>, Vec<String>) = names.into_iter().partition(|name| times(name) == 0);
+        let rarest = came.iter().min_by_key(|name| times(name));
+        let rarest = rarest.map_or(String::new(), |name| format!("; the rarest, {name}: {} times", times(name)));
+        println!("features: {} of {} came{rarest}", came.len(), came.len() + missing.len());
+        missing
+    }
+}

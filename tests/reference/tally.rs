@@ -1,0 +1,89 @@
+//! How often each answer was given and each two refusals held at once, and what of the list never came.
+
+use crate::calls::{Call, Function, Function::*};
+use std::collections::BTreeMap;
+
+/// From so many calls of each function on, every answer and every two refusals must have come.
+pub const ENOUGH_FOR_ALL: u64 = 5000;
+
+/// Refusals in the order in which they are checked.
+const CHECKS: [(Function, &[u32]); 3] =
+    [(Judge, &[9, 1, 2, 3, 4, 5, 7, 6, 8]), (Register, &[9, 1, 2, 3, 4, 11]), (Burst, &[10, 9])];
+
+/// A recording too short for a header has no records.
+const NEVER_BOTH: [(u32, u32); 3] = [(1, 5), (1, 7), (1, 6)];
+
+#[derive(Default)]
+pub struct Tally {
+    answers: BTreeMap<(Function, String), u64>,
+    both: BTreeMap<(Function, u32, u32), u64>,
+}
+
+fn name_of(call: &Call, answer: &Result<Vec<u8>, u32>) -> String {
+    match (answer, call.function) {
+        (Err(refusal), _) => format!("refused {refusal}"),
+        (Ok(bytes), Judge) if bytes[0] == 0 => "clean".to_string(),
+        (Ok(bytes), Judge) => format!("rule {}", bytes[1]),
+        (Ok(_), Register) => format!("MR{}", call.numbers[0]),
+        (Ok(bytes), Burst) => {
+            let [_, start, kind, direction] = call.numbers;
+            format!("{} words from {start}, type {}, direction {}", bytes.len(), kind.min(1), direction.min(1))
+        }
+    }
+}
+
+/// Every answer that a function has, refusals first.
+fn all_names(function: Function, checks: &[u32]) -> Vec<String> {
+    let refusals = checks.iter().map(|refusal| format!("refused {refusal}"));
+    let taken: Vec<String> = match function {
+        Judge => std::iter::once("clean".to_string()).chain((1..=25).map(|rule| format!("rule {rule}"))).collect(),
+        Register => (0..4).map(|number| format!("MR{number}")).collect(),
+        Burst => (0..64)
+            .map(|n| {
+                let words = 4 + n / 32 * 4;
+                format!("{words} words from {}, type {}, direction {}", n % 8, n / 8 % 2, n / 16 % 2)
+            })
+            .collect(),
+    };
+    refusals.chain(taken).collect()
+}
+
+fn all_pairs(function: Function, checks: &'static [u32]) -> impl Iterator<Item = (u32, u32)> {
+    let pairs = checks.iter().enumerate().flat_map(|(place, a)| checks[place + 1..].iter().map(move |b| (*a, *b)));
+    pairs.filter(move |pair| function == Register || !NEVER_BOTH.contains(pair))
+}
+
+impl Tally {
+    pub fn add(&mut self, call: &Call, answer: &Result<Vec<u8>, u32>) {
+        *self.answers.entry((call.function, name_of(call, answer))).or_default() += 1;
+        let held = call.conditions();
+        for (place, a) in held.iter().enumerate() {
+            for b in &held[place + 1..] {
+                for pair in [(*a, *b), (*b, *a)] {
+                    *self.both.entry((call.function, pair.0, pair.1)).or_default() += 1;
+                }
+            }
+        }
+    }
+
+    /// Prints the counts; the list of what never came.
+    pub fn report(&self) -> Vec<String> {
+        let mut missing = vec![];
+        for (function, checks) in CHECKS {
+            let times = |name: &String| self.answers.get(&(function, name.clone())).copied().unwrap_or(0);
+            let together = |(a, b): (u32, u32)| self.both.get(&(function, a, b)).copied().unwrap_or(0);
+            let names = all_names(function, checks);
+            let told: Vec<String> = names.iter().map(|name| format!("{name}: {}", times(name))).collect();
+            let shown = if function == Burst { &told[..checks.len()] } else { &told[..] };
+            println!("{function:?}: {}", shown.join(", "));
+            let least = names[checks.len()..].iter().map(times).min().unwrap_or(0);
+            let pairs: Vec<(u32, u32)> = all_pairs(function, checks).collect();
+            let least_pair = pairs.iter().map(|pair| together(*pair)).min().unwrap_or(0);
+            println!("  each answer that is no refusal at least {least} times; {} pairs of refusals at once, each at least {least_pair} times", pairs.len());
+            missing.extend(names.iter().filter(|name| times(name) == 0).map(|name| format!("{function:?}: {name}")));
+            let never = pairs.iter().filter(|pair| together(**pair) == 0);
+            missing.extend(never.map(|(a, b)| format!("{function:?}: refusals {a} and {b} at once")));
+        }
+        missing
+    }
+}
