@@ -2,7 +2,7 @@
 -- Assumes nothing.
 use Prim.Native.Nat.{ℕ, zero, suc, _<_}
 use native.Mathlib.Omega.{arith}
-use mathlib.Core.Path.{_≡_, refl, ap, fun-ext}
+use mathlib.Core.Path.{_≡_, refl}
 use mathlib.Core.Bool.{cond}
 use mathlib.Core.List.{List, [], _∷_}
 use lib.ListN.{getD, set}
@@ -34,8 +34,12 @@ module _ {A : Type 0} where
   set-table f (suc (suc (suc (suc (suc (suc (suc zero))))))) v h = refl
   set-table f (suc (suc (suc (suc (suc (suc (suc (suc n)))))))) v h = absurd (omega arith)
 
-  pub table-ext : (f g : ℕ → A) → ((b : ℕ) → f b ≡ g b) → table f ≡ table g
-  table-ext f g h = ap table (fun-ext h)
+  -- two tables that agree at the eight banks
+  pub table-ext : (f g : ℕ → A) → ((b : ℕ) → b < 8 → f b ≡ g b) → table f ≡ table g
+  unfolding table
+  table-ext f g h = λ i.
+      h 0 (omega arith) i ∷ h 1 (omega arith) i ∷ h 2 (omega arith) i ∷ h 3 (omega arith) i ∷ h 4 (omega arith) i ∷ h 5 (omega arith) i
+      ∷ h 6 (omega arith) i ∷ h 7 (omega arith) i ∷ []
 
   -- what holds of the new element and of the old one holds at each place after a store
   pub at-set : (P : A → Type 0) (d : A) (xs : List A) (i : ℕ) (v : A) (b : ℕ) → P v → P (getD xs b d) → P (getD (set xs i v) b d)

@@ -8,7 +8,7 @@ use mathlib.Core.List.{List, [], _∷_}
 use lib.Dec.{ltb}
 use lib.ListN.{getD}
 use Rattle.laws.specs.Eight.{table}
-use Rattle.laws.proofs.Eight.{getD-table}
+use Rattle.laws.proofs.Eight.{getD-table, table-ext}
 use Rattle.answers.specs.declared.Break.{Break}
 use Rattle.answers.specs.declared.Break.the-variants.{Fine, Broken}
 use Rattle.answers.specs.declared.Verdict.{Verdict}
@@ -33,7 +33,6 @@ use Rattle.rules.specs.Verdict.{Outcome, clean, stop, verdictTo, shown, 
 use Rattle.rules.proofs.Facts.{Sound}
 use Rattle.rules.proofs.Debts.{debtOf, owed-at}
 use Rattle.rules.proofs.Summary.{kept, written, shared, summary}
-use Rattle.rules.proofs.Moves.{all8}
 use Rattle.rules.proofs.Status.{status-of}
 use Rattle.rules.proofs.Sense.{stays-to, stop-at, stop-after}
 use Rattle.rules.proofs.Gap.{now24, now25, due-next}
@@ -71,7 +70,7 @@ module _ (C : Chip) where
   -- banks, registers and debt at the edge u, of what is kept of q
   banks-at : (q : Past) (u : ℕ) → banksAt (table (kept C q)) u ≡ table (λ b. shownOf (status C b q u))
   banks-at q u =
-      all8 (λ b. shownOf (statusOf (getD (table (kept C q)) b empty) u)) (λ b. shownOf (status C b q u))
+      table-ext (λ b. shownOf (statusOf (getD (table (kept C q)) b empty) u)) (λ b. shownOf (status C b q u))
       (λ b l. ap shownOf (ap (λ k. statusOf k u) (getD-table (kept C q) b empty l) ∙ status-of C b u q))
 
   abbrev registersIn : Past → List Register

@@ -67,13 +67,6 @@ no-close false true false h = h
 no-close false false true h = h
 no-close false false false h = h
 
--- two tables that agree at the eight banks
-pub all8 : {A : Type 0} (f g : ℕ → A) → ((b : ℕ) → b < 8 → f b ≡ g b) → table f ≡ table g
-unfolding table
-all8 f g h = λ i.
-    h 0 (omega arith) i ∷ h 1 (omega arith) i ∷ h 2 (omega arith) i ∷ h 3 (omega arith) i ∷ h 4 (omega arith) i ∷ h 5 (omega arith) i
-    ∷ h 6 (omega arith) i ∷ h 7 (omega arith) i ∷ []
-
 module _ (C : Chip) (r : Record) (p : Past) where
   abbrev e : ℕ
   e = edge (r ∷ p)
@@ -167,12 +160,12 @@ module _ (C : Chip) (r : Record) (p : Past) where
   unfolding judge.banksNext
   banks-next = ⊎-elim
       (λ (y : judge.preAll c r ≡ true).
-      rw y (all8 (λ b. judge.keptShut C e n (getD (table (kept C p)) b empty)) (kept C (r ∷ p))
+      rw y (table-ext (λ b. judge.keptShut C e n (getD (table (kept C p)) b empty)) (kept C (r ∷ p))
       (λ b l. ap (judge.keptShut C e n) (getD-table (kept C p) b empty l) ∙ kept-all b y)))
       (λ (z : judge.preAll c r ≡ false).
       rw (z, getD-table (kept C p) own empty (omega arith))
       (set-table (kept C p) own (judge.keptNext C c r e n (regs (r ∷ p)) (kept C p own)) (omega arith)
-      ∙ table-ext _ _ (each empty (λ b k. k) z)))
+      ∙ table-ext _ _ (λ b _. each empty (λ b k. k) z b)))
       (decide (judge.preAll c r))
 
   dues-next :
@@ -180,12 +173,12 @@ module _ (C : Chip) (r : Record) (p : Past) where
   unfolding judge.duesNext
   dues-next = ⊎-elim
       (λ (y : judge.preAll c r ≡ true).
-      rw y (all8 (λ b. judge.due C (judge.keptShut C e n (getD (table (kept C p)) b empty))) (λ b. judge.due C (kept C (r ∷ p) b))
+      rw y (table-ext (λ b. judge.due C (judge.keptShut C e n (getD (table (kept C p)) b empty))) (λ b. judge.due C (kept C (r ∷ p) b))
       (λ b l. ap (judge.due C) (ap (judge.keptShut C e n) (getD-table (kept C p) b empty l) ∙ kept-all b y))))
       (λ (z : judge.preAll c r ≡ false).
       rw (z, getD-table (kept C p) own empty (omega arith))
       (set-table (λ b. judge.due C (kept C p b)) own (judge.due C (judge.keptNext C c r e n (regs (r ∷ p)) (kept C p own))) (omega arith)
-      ∙ table-ext _ _ (each 0 (λ b k. judge.due C k) z)))
+      ∙ table-ext _ _ (λ b _. each 0 (λ b k. judge.due C k) z b)))
       (decide (judge.preAll c r))
 
   -- ── What all banks share ──────────────────────────────────────────────────────────────────
@@ -280,7 +273,7 @@ summary-fresh C = λ i. record {
   count = 0;
   first = noVerdict;
   banks = table (kept C []);
-  dues = table-ext (λ b. judge.due C (kept C [] b)) (λ b. 0) (λ b. not-due) i;
+  dues = table-ext (λ b. judge.due C (kept C [] b)) (λ b. 0) (λ b _. not-due) i;
   shared = record {
     now = 0;
     level = true;
