@@ -1,9 +1,12 @@
 //! What the generated recordings must have among them, and how often each comes in those that are judged.
 
-use crate::deadlines::debt_at;
+use crate::banks::precharge_start;
+use crate::deadlines::{awake_at, debt_at};
 use crate::header::Header;
 use crate::recording::{read_recording, read_records, Command::*, Event};
+use crate::registers::allowed;
 use crate::rules::{banks_of_rule_5, fourth_act_back, latest_start, needed};
+use crate::settings::CODE_BORDERS;
 use std::collections::BTreeMap;
 
 /// Longer ones are about the limit of records and show nothing else.
@@ -38,12 +41,24 @@ const SINGLE: [&str; 14] = [
     "DLL reset after a column",
 ];
 
+/// Corners of a break: what else holds where it is told.
+const CORNERS: [&str; 3] =
+    ["rule 5 after two equal starts", "rule 21 by an SRE that breaks 23 too", "rule 24 at an edge that breaks 25 too"];
+const RISING_TO_FLOOR: &str = "REF to debt -8 at a rising edge";
+
+fn code_of_next_period(number: u8, period: i64) -> String {
+    format!("rule 3 at period {period} by a code of MR{number} that the next period allows")
+}
+
 /// Every feature that a run must have.
 fn all() -> Vec<String> {
-    let mut names: Vec<String> = SINGLE.iter().map(|name| name.to_string()).collect();
+    let single = SINGLE.iter().chain(&CORNERS).chain([&RISING_TO_FLOOR]);
+    let mut names: Vec<String> = single.map(|name| name.to_string()).collect();
     for n in 0..32 {
         names.push(format!("bin {}, density {}, width {}, hot {}", n / 8, n / 4 % 2, n / 2 % 2, n % 2));
     }
+    names.extend(CODE_BORDERS.iter().map(|period| code_of_next_period(0, *period)));
+    names.extend(CODE_BORDERS[..8].iter().map(|period| code_of_next_period(2, *period)));
     names.extend(BORDERS.iter().map(|border| format!("period {border}")));
     names.extend(BORDERS[1..].iter().map(|border| format!("period {}", border - 1)));
     for n in 0..18 {
@@ -86,7 +101,12 @@ fn record_features(header: &Header, past: &[Event]) -> Vec<String> {
         Srx => vec![single(8)],
         Low => vec![single(9)],
         Nop | Des => vec![single(10)],
-        Ref => vec![format!("REF to debt {}", debt_at(header, past, last.edge))],
+        Ref => {
+            let debt = debt_at(header, past, last.edge);
+            let falls = debt_at(header, earlier, last.edge) == debt + 1;
+            let rising = debt == -8 && falls && awake_at(past, last.edge) % header.t_refi() == 0;
+            std::iter::once(format!("REF to debt {debt}")).chain(rising.then(|| RISING_TO_FLOOR.to_string())).collect()
+        }
         Mrs if last.bank < 2 && after_column() => {
             let before = last.registers.0[last.bank as usize];
             let changed = before.is_some_and(|code| code != last.a).then(|| single(11 + last.bank as usize));
@@ -112,6 +132,31 @@ fn met_to_the_edge(header: &Header, past: &[Event]) -> Vec<String> {
     SPACINGS.filter(|rule| exact(*rule)).map(|rule| format!("rule {rule} met to the edge")).collect()
 }
 
+/// The past holds the records up to the broken edge.
+fn corner_features(header: &Header, past: &[Event], rule: u8, edge: i64) -> Vec<String> {
+    let Some((last, earlier)) = past.split_last() else { return vec![] };
+    if rule == 3 && last.command == Mrs {
+        let next = |off: i64| Header { period: header.period + off, ..*header };
+        let allows = |off: i64| allowed(&next(off), last.bank as u32, last.a);
+        return (allows(1) || allows(-1)).then(|| code_of_next_period(last.bank, header.period)).into_iter().collect();
+    }
+    let holds = match rule {
+        5 => {
+            let banks = banks_of_rule_5(last);
+            let latest = latest_start(header, earlier, &banks).map(|(start, _)| start);
+            let starts = |place: usize| {
+                banks.iter().any(|bank| latest.is_some() && precharge_start(header, earlier, place, *bank) == latest)
+            };
+            (0..earlier.len()).filter(|place| starts(*place)).count() > 1
+        }
+        21 => last.command == Sre,
+        24 => awake_at(past, edge) % header.t_refi() == 0 && debt_at(header, past, edge) > 8,
+        _ => false,
+    };
+    let place = [5, 21, 24].iter().position(|corner| *corner == rule && holds);
+    place.map(|place| CORNERS[place].to_string()).into_iter().collect()
+}
+
 fn number(bytes: &[u8]) -> u64 {
     bytes.iter().fold(0, |number, byte| number << 8 | *byte as u64)
 }
@@ -127,12 +172,17 @@ impl Features {
         let (outcome, rule, edge) = (verdict[0], verdict[1], number(&verdict[8..14]) as i64);
         let mut past = vec![];
         for record in read_records(section) {
-            past.push(Event::after(&past, &record));
-            if outcome == 1 && past[past.len() - 1].edge >= edge {
+            let event = Event::after(&past, &record);
+            if outcome == 1 && event.edge >= edge {
+                past.extend((event.edge == edge).then_some(event));
                 break;
             }
+            past.push(event);
             names.extend(record_features(&header, &past));
             names.extend(met_to_the_edge(&header, &past));
+        }
+        if outcome == 1 {
+            names.extend(corner_features(&header, &past, rule, edge));
         }
         let by_one = number(&verdict[14..17]) == number(&verdict[17..20]) + 1;
         names.extend((outcome == 1 && by_one).then(|| format!("rule {rule} broken by one edge")));

@@ -55,7 +55,7 @@ pub fn case(seed: u64, index: u64, small: bool) -> Case {
 fn any_aimed(random: &mut Random) -> Case {
     let mut weights = [2; 26];
     weights[0] = 16;
-    for rarely_reached in [4, 8, 10, 20] {
+    for rarely_reached in [3, 4, 8, 10, 20] {
         weights[rarely_reached] = 4;
     }
     weights[19] = 8;

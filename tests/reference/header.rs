@@ -9,14 +9,14 @@ pub struct Header {
     pub period: i64,
 }
 
-struct Bin {
-    least_period: i64,
-    t_rcd_rp: i64,
-    t_rc: i64,
-    t_ras: i64,
-    t_rrd: [i64; 2],
-    t_faw: [i64; 2],
-    t_cke: i64,
+pub struct Bin {
+    pub least_period: i64,
+    pub t_rcd_rp: i64,
+    pub t_rc: i64,
+    pub t_ras: i64,
+    pub t_rrd: [i64; 2],
+    pub t_faw: [i64; 2],
+    pub t_cke: i64,
 }
 
 /// Picoseconds. Pairs are the 1K page and the 2K page.
@@ -67,7 +67,7 @@ impl Header {
         picoseconds / self.period
     }
 
-    fn times(&self) -> &'static Bin {
+    pub fn times(&self) -> &'static Bin {
         &BINS[self.bin]
     }
 
@@ -120,7 +120,7 @@ impl Header {
         self.least(15000).max(12)
     }
 
-    fn refresh_time(&self) -> i64 {
+    pub fn refresh_time(&self) -> i64 {
         if self.density == 0 {
             110_000
         } else {

@@ -21,6 +21,7 @@ mod bursts;
 mod calls;
 mod compare;
 mod controller;
+mod corners;
 mod count;
 mod cuts;
 mod damage;

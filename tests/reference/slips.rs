@@ -1,15 +1,20 @@
 //! The controller's mistakes: a next record that breaks a given rule.
 
 use crate::controller::{pins_of, Controller};
+use crate::corners::corner;
 use crate::header::least_period;
 use crate::random::Random;
 use crate::recording::{Command::*, Event, Record};
 use crate::rules::latest_start;
-use crate::settings::{allowed_code, random_header};
+use crate::settings::{allowed_code, random_header, with_another_latency};
 use crate::verdict::broken_at;
 
 /// Issues a next record; true if it breaks the rule, as far as the controller knows.
 pub fn slip(controller: &mut Controller, rule: u8) -> bool {
+    let often = if rule == 3 { 60 } else { 20 };
+    if controller.random.chance(often) && corner(controller, rule).is_some() {
+        return true;
+    }
     if rule == 2 && controller.random.chance(60) {
         if let Some(bank) = controller.close_a_bank() {
             return around_start(controller, bank);
@@ -73,18 +78,19 @@ fn any_record(controller: &mut Controller) -> (Record, i64) {
     (record, controller.now() + wait)
 }
 
-/// A code with one bit changed, or one that another header allows.
+/// A code with one bit changed, one with another latency or write recovery, or one that another header allows.
 fn nearly_allowed(controller: &mut Controller) -> (Record, i64) {
     let random = &mut controller.random;
-    let number = random.pick(&[0, 0, 0, 1, 1, 2, 2, 3]);
+    let number = random.pick(&[0, 0, 0, 1, 2, 2, 2, 3]);
     let mut elsewhere = random_header(random);
     if random.chance(50) && controller.header.period >= least_period(elsewhere.bin) {
         elsewhere.period = controller.header.period;
     }
-    let a = if random.chance(50) {
-        allowed_code(random, &controller.header, number) ^ 1 << random.below(16)
-    } else {
-        allowed_code(random, &elsewhere, number)
+    let good = allowed_code(random, &controller.header, number);
+    let a = match random.below(3) {
+        0 => good ^ 1 << random.below(16),
+        1 => with_another_latency(random, good, number),
+        _ => allowed_code(random, &elsewhere, number),
     };
     let record = Record { step: 0, cke: true, pins: pins_of(Mrs), ba: number, a };
     (record, controller.least_edge(&record))

@@ -4,7 +4,7 @@ use crate::calls::{Call, Function, Function::*};
 use std::collections::BTreeMap;
 
 /// From so many calls of each function on, every answer and every two refusals must have come.
-pub const ENOUGH_FOR_ALL: u64 = 5000;
+pub const ENOUGH_FOR_ALL: u64 = 20000;
 
 /// Refusals in the order in which they are checked.
 const CHECKS: [(Function, &[u32]); 3] =
