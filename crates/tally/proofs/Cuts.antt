@@ -1,7 +1,7 @@
 -- What a tally says of a recording: however it is cut into sections, and whichever of them are refused, each count is the number of
 -- records of that kind that the taken sections make together, and the counts sum to the number of records.
 -- Assumes nothing.
-use Prim.Native.Nat.{ℕ, zero, suc, _+_, _/_, _%_, _≤_, _<_}
+use Prim.Native.Nat.{ℕ, _+_, _/_, _%_, _≤_, _<_}
 use native.Mathlib.Omega.{arith}
 use native.Mathlib.Decide.{ℕ-discrete}
 use mathlib.Core.Bool.{Bool, true, false, cond}
@@ -19,7 +19,7 @@ use Rattle.rules.proofs.Section.{recording, recording-append}
 use Rattle.tally.specs.declared.Tally.{Tally}
 use Rattle.tally.specs.declared.Tallied.{Tallied}
 use Rattle.tally.specs.Kinds.{kindOf, kindAt}
-use Rattle.tally.specs.Tally.{start, raised, stepOf, foldOf, largest, inRange, take, refuse, sectionOf}
+use Rattle.tally.specs.Tally.{start, stepOf, foldOf, largest, inRange, take, refuse, sectionOf}
 use Rattle.tally.specs.Counts.{countOf, seventeen, tallyOf, total}
 use Rattle.tally.proofs.Ranging.{in-range}
 use Rattle.tally.proofs.Seventeen.{kind-below, raised-at, at-seventeen, total-raised, below-total}
