@@ -1,0 +1,3 @@
+-- The rows are those of the definition.
+pub mod Rows
+pub mod Answers

@@ -1,0 +1,6 @@
+-- The loops, and what a tally says of a recording.
+pub mod Ranging
+pub mod Folds
+pub mod Seventeen
+pub mod Cuts
+pub mod Answers

@@ -1,0 +1,28 @@
+-- The kinds of records that are counted, a number each: 01, "Commands and the 25 rules", first paragraph.
+-- Assumes nothing.
+use Prim.Native.Nat.{ℕ}
+use mathlib.Core.Bool.{Bool, cond}
+use Rattle.records.specs.declared.Record.{Record}
+use Rattle.records.specs.declared.Command.{Command}
+use Rattle.records.specs.declared.Command.the-variants.{Mrs, Ref, Pre, Act, Wr, Rd, Zq, Nop, Des, Sre, Srx, Low, Bad}
+use Rattle.records.specs.Command.{commandOf, a10}
+
+-- "PRE (A10: all banks)", "WR, RD (A10: auto precharge)", "ZQ (A10: long)"; REF and SRE are two
+abbrev pub kindOf : Command → (a10 : Bool) → ℕ
+kindOf Mrs x = 0
+kindOf Ref x = 1
+kindOf Pre x = cond x 3 2
+kindOf Act x = 4
+kindOf Wr x = cond x 6 5
+kindOf Rd x = cond x 8 7
+kindOf Zq x = cond x 9 10
+kindOf Nop x = 11
+kindOf Des x = 12
+kindOf Sre x = 13
+kindOf Srx x = 14
+kindOf Low x = 15
+kindOf Bad x = 16
+
+-- a record's kind, by the CKE level before it
+unfoldable pub kindAt : (before : Bool) → Record → ℕ
+kindAt before r = kindOf (commandOf before r) (a10 r)

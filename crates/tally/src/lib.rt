@@ -1,0 +1,149 @@
+// How many records of each command a recording has, carried over its sections as the judge's state is: 01, "Commands and the 25
+// rules", first paragraph. A count's place in the tally is the kind that `kind_of` gives.
+use records::Command;
+use records::Record;
+ghost use mathlib.Core.Path.{_≡_};
+ghost use Prim.Native.Nat.{_+_, _≤_, _<_};
+ghost use mathlib.Core.Bool.{cond};
+ghost use lib.ListN.{length};
+ghost use Rattle.records.specs.Record.{records, recordAt};
+ghost use Rattle.tally.specs.Kinds.{kindOf, kindAt};
+ghost use Rattle.tally.specs.Tally as defs;
+
+// A count above this is refused: from there a sum could wrap.
+const LARGEST: u64 = 1152921504606846976;
+
+// The CKE level after the records so far, and the number of records of each kind.
+pub struct Tally {
+    pub level: bool,
+    pub counts: [u64; 17],
+}
+
+// refused is 0 or the number of the check that failed; then the tally is the one handed in.
+pub struct Tallied {
+    pub refused: u64,
+    pub tally: Tally,
+}
+
+impl Tally {
+    // No record yet: CKE is high.
+    pub fn start() -> Tally
+        ensures { λ r. ⌜ r ≡ defs.start ⌝ }
+    {
+        let counts = [0u64; 17];
+        Tally {
+            level: true,
+            counts: counts,
+        }
+    }
+
+    // Checks 17, 5; then the section's records are counted.
+    pub fn section(self, bytes: &[u8]) -> Tallied
+        ensures { λ r. ⌜ r ≡ defs.sectionOf self (now (bytes .entry)) ⌝ }
+    {
+        let counts = self.counts;
+        if !in_range(counts) {
+            return refuse(17, self);
+        }
+        if bytes.len() % 6 != 0 {
+            return refuse(5, self);
+        }
+        let n = fold(self, bytes);
+        Tallied {
+            refused: 0,
+            tally: n,
+        }
+    }
+}
+
+fn refuse(n: u64, t: Tally) -> Tallied
+    ensures { λ r. ⌜ r ≡ defs.refuse n t ⌝ }
+{
+    Tallied {
+        refused: n,
+        tally: t,
+    }
+}
+
+// Is no count above the largest?
+fn in_range(counts: [u64; 17]) -> bool
+    ensures { λ r. ⌜ r ≡ defs.inRange counts ⌝ }
+{
+    let mut i: usize = 0;
+    while i < 17 {
+        if LARGEST < counts[i] {
+            return false;
+        }
+        i += 1;
+    }
+    true
+}
+
+fn fold(t: Tally, bytes: &[u8]) -> Tally
+    requires { ⌜ defs.Ready t (now bytes) ⌝ }
+    ensures { λ r. ⌜ r ≡ defs.foldOf t (records (now (bytes .entry))) ⌝ }
+{
+    let mut n = t;
+    let mut at: usize = 0;
+    while at < bytes.len() {
+        let r = record_at(bytes, at);
+        let k = kind_at(n.level, r);
+        at += 6;
+        n.level = r.cke;
+        n.counts[k] = n.counts[k] + 1;
+    }
+    n
+}
+
+fn record_at(bytes: &[u8], at: usize) -> Record
+    requires { ⌜ at + 6 ≤ length (now bytes) ⌝ }
+    ensures { λ r. ⌜ r ≡ recordAt (now (bytes .entry)) at ⌝ }
+{
+    records::decode(
+        bytes[at],
+        bytes[at + 1],
+        bytes[at + 2],
+        bytes[at + 3],
+        bytes[at + 4],
+        bytes[at + 5],
+    )
+}
+
+// The kind of a record, by the CKE level before it.
+pub fn kind_at(level: bool, r: Record) -> usize
+    ensures { λ k. ⌜ (k ≡ kindAt level r) × (k < 17) ⌝ }
+{
+    let c = records::command_of(level, r);
+    kind_of(c, r.a / 1024 % 2 == 1)
+}
+
+// A command's place in the tally; A10 tells two kinds of PRE, WR, RD and ZQ apart.
+fn kind_of(c: Command, a10: bool) -> usize
+    ensures { λ k. ⌜ (k ≡ kindOf c a10) × (k < 17) ⌝ }
+{
+    match c {
+        Command::Mrs => 0,
+        Command::Ref => 1,
+        Command::Pre => either(a10, 3, 2),
+        Command::Act => 4,
+        Command::Wr => either(a10, 6, 5),
+        Command::Rd => either(a10, 8, 7),
+        Command::Zq => either(a10, 9, 10),
+        Command::Nop => 11,
+        Command::Des => 12,
+        Command::Sre => 13,
+        Command::Srx => 14,
+        Command::Low => 15,
+        Command::Bad => 16,
+    }
+}
+
+fn either(first: bool, a: usize, b: usize) -> usize
+    requires { ⌜ (a < 17) × (b < 17) ⌝ }
+    ensures { λ r. ⌜ (r ≡ cond first a b) × (r < 17) ⌝ }
+{
+    if first {
+        return a;
+    }
+    b
+}
