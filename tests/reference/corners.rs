@@ -1,7 +1,7 @@
 //! Corners that a controller does not come to by chance: each is set up on purpose, and then the rule is broken at it.
 
 use crate::controller::{pins_of, Controller};
-use crate::recording::{cke_after, Command::*, Record};
+use crate::recording::{cke_after, registers_after, Command::*, Record};
 use crate::registers::allowed;
 use crate::rules::latest_start;
 use crate::settings::{allowed_code, with_longer_period};
@@ -15,6 +15,7 @@ pub fn corner(controller: &mut Controller, rule: u8) -> Option<()> {
         3 => code_of_the_next_period(controller),
         5 => equal_starts(controller),
         21 => asleep_again(controller),
+        24 if controller.random.chance(50) => start_at_the_deadline(controller),
         24 => both_deadlines(controller),
         25 => pulled_in_at_a_rising(controller),
         _ => None,
@@ -80,6 +81,24 @@ fn both_deadlines(controller: &mut Controller) -> Option<()> {
     controller.issue(record, edge);
     let nop = Record { pins: pins_of(Nop), ..record };
     let later = controller.random.pick(&[0, 1, 1000]);
+    controller.issue(nop, deadline + later);
+    Some(())
+}
+
+/// A WR with auto precharge whose bank starts it at the very edge at which it is late, or at the last edge in time.
+fn start_at_the_deadline(controller: &mut Controller) -> Option<()> {
+    let (deadline, rule) = controller.deadline()?;
+    let bank = controller.longest_open().filter(|_| rule == 24)?;
+    let registers = registers_after(&controller.past);
+    let record = controller.record(Wr, bank, true);
+    let start = deadline - controller.random.pick(&[0, 0, 1]);
+    let edge = start - registers.wl() - registers.h() - registers.programmed_wr();
+    if edge < controller.least_edge(&record) {
+        return None;
+    }
+    controller.issue(record, edge);
+    let nop = controller.record(Nop, 0, false);
+    let later = controller.random.pick(&[0, 1, 50]);
     controller.issue(nop, deadline + later);
     Some(())
 }

@@ -44,6 +44,7 @@ const SINGLE: [&str; 14] = [
 /// Corners of a break: what else holds where it is told.
 const CORNERS: [&str; 3] =
     ["rule 5 after two equal starts", "rule 21 by an SRE that breaks 23 too", "rule 24 at an edge that breaks 25 too"];
+const START_TOO_LATE: &str = "rule 24 at the edge at which the precharge starts";
 const RISING_TO_FLOOR: &str = "REF to debt -8 at a rising edge";
 
 fn code_of_next_period(number: u8, period: i64) -> String {
@@ -52,7 +53,7 @@ fn code_of_next_period(number: u8, period: i64) -> String {
 
 /// Every feature that a run must have.
 fn all() -> Vec<String> {
-    let single = SINGLE.iter().chain(&CORNERS).chain([&RISING_TO_FLOOR]);
+    let single = SINGLE.iter().chain(&CORNERS).chain([&RISING_TO_FLOOR, &START_TOO_LATE]);
     let mut names: Vec<String> = single.map(|name| name.to_string()).collect();
     for n in 0..32 {
         names.push(format!("bin {}, density {}, width {}, hot {}", n / 8, n / 4 % 2, n / 2 % 2, n % 2));
@@ -139,6 +140,10 @@ fn corner_features(header: &Header, past: &[Event], rule: u8, edge: i64) -> Vec<
         let next = |off: i64| Header { period: header.period + off, ..*header };
         let allows = |off: i64| allowed(&next(off), last.bank as u32, last.a);
         return (allows(1) || allows(-1)).then(|| code_of_next_period(last.bank, header.period)).into_iter().collect();
+    }
+    let starts_now = |place: usize| (0..8).any(|bank| precharge_start(header, past, place, bank) == Some(edge));
+    if rule == 24 && (0..past.len()).any(|place| past[place].command == Wr && starts_now(place)) {
+        return vec![START_TOO_LATE.to_string()];
     }
     let holds = match rule {
         5 => {

@@ -56,7 +56,7 @@ pub fn random_header(random: &mut Random) -> Header {
     header
 }
 
-/// The picoseconds that the rule counts by.
+/// The picoseconds that the rule counts by; of a greatest time, which is rounded down, one more too.
 fn times_of_rule(header: &Header, rule: u8) -> Vec<i64> {
     let bin = header.times();
     let refresh = header.refresh_time();
@@ -72,8 +72,8 @@ fn times_of_rule(header: &Header, rule: u8) -> Vec<i64> {
         18 => vec![320_000, 80_000],
         21 => vec![refresh + 10_000],
         22 => vec![bin.t_cke],
-        24 => vec![70_000_000],
-        25 => vec![7_800_000, 3_900_000],
+        24 => vec![70_000_000, 70_000_001],
+        25 => vec![7_800_000, 3_900_000, 7_800_001],
         _ => vec![],
     }
 }
@@ -82,8 +82,12 @@ fn times_of_rule(header: &Header, rule: u8) -> Vec<i64> {
 fn with_telling_period(random: &mut Random, header: Header, rule: u8) -> Header {
     let mut periods: Vec<i64> = (least_period(header.bin)..=GREATEST_PERIOD).collect();
     let times = times_of_rule(&header, rule);
-    periods.retain(|period| times.iter().any(|time| time % period == 0));
-    if periods.is_empty() || random.chance(70) {
+    if times.is_empty() || random.chance(70) {
+        return header;
+    }
+    let time = random.pick(&times);
+    periods.retain(|period| time % period == 0);
+    if periods.is_empty() {
         return header;
     }
     Header { period: random.pick(&periods), ..header }
