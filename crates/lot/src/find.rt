@@ -30,7 +30,7 @@ struct Search {
     named: Named,
 }
 
-// Two readings of a file that changes in between can differ: then a record may be missing here, and is told as none.
+// What can be read but once, as a pipe, is not found again: then the record stays none.
 pub(crate) fn records(v: Verdict, first: usize, end: usize) -> Named {
     let mut s = start(v);
     if v.outcome == 0 {

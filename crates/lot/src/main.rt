@@ -1,5 +1,6 @@
 // Reports on one lot: the files that its arguments name, in order, judged as one recording. The first begins with the six header
 // bytes, and each ends between records. With --values before them the report has one `name value` a line, for another program.
+// However the records are cut into files, the verdict and the counts are those of the uncut recording (rules, Sections; tally, Lots).
 // A file that cannot be judged ends the report with a line that says which and why. A program has no exit status to set.
 mod find;
 mod person;

@@ -61,7 +61,7 @@ pub(crate) fn file(i: usize, records: u64, from: u64, to: u64) {
 pub(crate) fn report(t: Tally, count: u64, named: Named, c: Closed, header: [u8; 6]) {
     let counts = t.counts;
     commands(counts);
-    put(b"  all                                 ");
+    put(b"  all                                ");
     column(count);
     put(b"\n\n");
     verdict(c.verdict, named);
@@ -167,8 +167,8 @@ fn verdict(v: Verdict, named: Named) {
     words::rule(v.rule);
     put(b".\n");
     clocks(v);
-    record(named.record, b"record that breaks it");
-    record(named.partner, b"earlier record");
+    record(named.record, v.number, b"record that breaks it");
+    record(named.partner, v.partner, b"earlier record");
     put(b"\nJust before the broken edge\n");
 }
 
@@ -187,14 +187,18 @@ fn clocks(v: Verdict) {
     put(b"\n");
 }
 
-fn record(f: Found, what: &[u8]) {
+fn record(f: Found, number: u64, what: &[u8]) {
     put(b"  ");
     put(what);
-    if f.number == 0 {
+    if number == 0 {
         put(b": none\n");
         return;
     }
-    say(b": number ", f.number);
+    say(b": number ", number);
+    if f.number == 0 {
+        put(b", which a second reading of the files did not find\n");
+        return;
+    }
     put(b", ");
     let kind = glossary::name_of(f.kind);
     word(&kind);

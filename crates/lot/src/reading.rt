@@ -169,13 +169,13 @@ fn taken(lot: Lot, p: Place, bytes: &[u8], values: bool) -> Lot {
     );
     let next = t.state;
     tell(place, next.count, next.edge, values);
-    let counts = u.tally;
+    let counted = u.tally;
     let header = lot.header;
     Lot {
         place: place,
         header: header,
         state: next,
-        tally: counts,
+        tally: counted,
     }
 }
 

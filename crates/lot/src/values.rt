@@ -39,9 +39,10 @@ pub(crate) fn report(t: Tally, count: u64, named: Named, c: Closed, header: [u8;
     let counts = t.counts;
     commands(counts);
     value(b"count_all", count);
-    verdict(c.verdict);
-    record(b"record", named.record);
-    record(b"partner", named.partner);
+    let v = c.verdict;
+    verdict(v);
+    record(b"record", broken_by(v), named.record);
+    record(b"partner", v.partner, named.partner);
     let banks = c.banks;
     print_banks(banks);
     let registers = c.registers;
@@ -108,9 +109,17 @@ fn verdict(v: Verdict) {
     value(b"found", v.found);
 }
 
-// 0 and no more where there is none.
-fn record(what: &[u8], f: Found) {
-    value(what, f.number);
+// The number of the record that breaks a rule, 0 for none: a clean verdict's number is that of all records.
+fn broken_by(v: Verdict) -> u64 {
+    if v.outcome == 0 {
+        return 0;
+    }
+    v.number
+}
+
+// The number alone where there is none, and where a second reading did not find it.
+fn record(what: &[u8], number: u64, f: Found) {
+    value(what, number);
     if f.number == 0 {
         return;
     }
