@@ -100,7 +100,7 @@ pub record Stands (bs : List ℕ) (t : Tally) : Type 0 where
   pub sixes : length bs % 6 ≡ 0
   pub whole : t ≡ tallyOf (recording bs)
 
-start-stands : Stands [] start
+pub start-stands : Stands [] start
 start-stands = record { sixes = refl; whole = start-is }
 
 abbrev joined : (bs xs : List ℕ) → List (List ℕ) → Tally → Bool → List ℕ
@@ -189,7 +189,7 @@ uncut-sixes : (xss : List (List ℕ)) → Sixes xss → length (uncut xss) % 6 �
 uncut-sixes [] h = refl
 uncut-sixes (xs ∷ xss) h = omega (arith, length-append xs (uncut xss), h .0, uncut-sixes xss (h .1))
 
-all-taken :
+pub all-taken :
     (xss : List (List ℕ)) (bs : List ℕ) (t : Tally) → Stands bs t → Sixes xss → (length bs + length (uncut xss)) / 6 ≤ largest
     → taken t xss ≡ uncut xss
 all-taken [] bs t s h m = refl

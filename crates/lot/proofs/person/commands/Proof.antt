@@ -1,0 +1,63 @@
+-- `lot::person::commands` is safe and ends: a turn for each row.
+-- Assumes nothing.
+use Prim.Native.Nat.{_≤_, _-_}
+use borrow.Author.Needs.{needs}
+use Rattle.lot.proofs.person.commands.Statement.{statement}
+use Rattle.lot.proofs.person.commands.Tie as tie
+
+abbrev Inv-loop : tie.InvT-loop
+Inv-loop counts last₀ i₀ last i = i ≤ 24
+
+abbrev μ-loop : tie.MeasureT-loop
+μ-loop counts last₀ i₀ last i = 24 - i
+
+slice-aggregate-put : tie.Need-slice-aggregate-put Inv-loop μ-loop
+slice-aggregate-put c = search needs
+
+put-requires : tie.Need-put-requires Inv-loop μ-loop
+put-requires c κs = search needs
+
+slice-aggregate-put-2 : tie.Need-slice-aggregate-put-2 Inv-loop μ-loop
+slice-aggregate-put-2 c = search needs
+
+put-requires-2 : tie.Need-put-requires-2 Inv-loop μ-loop
+put-requires-2 c κs = search needs
+
+loop-holds : tie.Need-loop-holds Inv-loop μ-loop
+loop-holds c = search needs
+
+row-at-requires : tie.Need-row-at-requires Inv-loop μ-loop
+row-at-requires c κs = search needs
+
+row-requires : tie.Need-row-requires Inv-loop μ-loop
+row-requires c κs = search needs
+
+add-i : tie.Need-add-i Inv-loop μ-loop
+add-i c = search needs
+
+loop-less : tie.Need-loop-less Inv-loop μ-loop
+loop-less c = search needs
+
+loop-again : tie.Need-loop-again Inv-loop μ-loop
+loop-again c = search needs
+
+returns : tie.Need-returns Inv-loop μ-loop
+returns c = search needs
+
+pub commands-spec : {M : Type 1} → statement M
+commands-spec =
+    tie.close
+    (tie.spec
+    Inv-loop
+    μ-loop
+    slice-aggregate-put
+    put-requires
+    slice-aggregate-put-2
+    put-requires-2
+    loop-holds
+    row-at-requires
+    row-requires
+    add-i
+    loop-less
+    loop-again
+    returns)

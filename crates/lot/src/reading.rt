@@ -1,0 +1,248 @@
+// The first reading: each file's bytes, in sections of 6,000, through the judge and the tally.
+use crate::Lot;
+use crate::Place;
+use crate::told;
+use header::Header;
+use judge::State;
+use tally::Tally;
+
+// A section's bytes.
+const SECTION: usize = 6000;
+
+// The lot's first file, which argument i names: the header, and the records behind it.
+pub(crate) fn first(i: usize, values: bool) -> Lot {
+    let fd = opened(i, values);
+    let start = headed(i, fd, values);
+    let end = sections(start, fd, values);
+    libc::close(fd);
+    end
+}
+
+// A later file.
+pub(crate) fn later(lot: Lot, i: usize, values: bool) -> Lot {
+    if lot.place.stopped {
+        return lot;
+    }
+    let fd = opened(i, values);
+    let place = begun(i, fd, lot.state.count, lot.state.edge);
+    let end = sections(moved(lot, place), fd, values);
+    libc::close(fd);
+    end
+}
+
+// A descriptor, or what is below 0 where the file cannot be opened.
+fn opened(i: usize, values: bool) -> i32 {
+    let mut path = io::buffer();
+    let k = os::arg(i, &mut path);
+    let fd = os::open_read(&path[..k]);
+    if fd < 0 {
+        told::unopened(values, i, os::errno());
+    }
+    fd
+}
+
+fn begun(i: usize, fd: i32, count: u64, edge: u64) -> Place {
+    Place {
+        file: i,
+        at: 0,
+        count: count,
+        edge: edge,
+        more: 0 <= fd,
+        stopped: fd < 0,
+    }
+}
+
+fn moved(lot: Lot, place: Place) -> Lot {
+    let mut n = lot;
+    n.place = place;
+    n
+}
+
+fn headed(i: usize, fd: i32, values: bool) -> Lot {
+    let mut header = [0u8; 6];
+    let k = io::read_full(fd, &mut header);
+    let o = State::open(&header[..k]);
+    let state = o.state;
+    let place = behind_header(begun(i, fd, 0, 0), fd, k, o.refused, values);
+    part(place.stopped, values, state.header);
+    let tally = Tally::start();
+    Lot {
+        place: place,
+        header: header,
+        state: state,
+        tally: tally,
+    }
+}
+
+// The place behind k bytes of a header.
+fn behind_header(p: Place, fd: i32, k: usize, refused: u64, values: bool) -> Place {
+    let start = behind(p, fd, k == 6, k, values);
+    if start.stopped {
+        return start;
+    }
+    if refused != 0 {
+        told::refusal(values, start.file, 0, refused);
+        return stopped(start);
+    }
+    let mut n = start;
+    n.more = true;
+    n
+}
+
+fn part(stopped: bool, values: bool, h: Header) {
+    if !stopped {
+        told::part(values, h);
+    }
+}
+
+// The place behind k bytes more; what is not full is to be the file's end.
+fn behind(p: Place, fd: i32, full: bool, k: usize, values: bool) -> Place {
+    let mut n = p;
+    if p.stopped {
+        return n;
+    }
+    if !full {
+        if !ended(fd) {
+            told::unread(values, p.file);
+            return stopped(p);
+        }
+    }
+    if (p.at == 0) & (k == 0) {
+        told::empty(values, p.file);
+        return stopped(p);
+    }
+    n.more = full;
+    n.at = std::num::wrapping_add_u64(p.at, k as u64);
+    n
+}
+
+fn stopped(p: Place) -> Place {
+    let mut n = p;
+    n.more = false;
+    n.stopped = true;
+    n
+}
+
+// Does the file end here? A read that fails is no end.
+fn ended(fd: i32) -> bool {
+    let mut next = [0u8; 1];
+    libc::read(fd, &mut next) == 0
+}
+
+// Section after section. Nothing says that a file ends, so the turns count down from a number that no run uses up.
+fn sections(start: Lot, fd: i32, values: bool) -> Lot {
+    let mut lot = start;
+    let mut turns = u64::MAX;
+    while turns > 0 {
+        if !lot.place.more {
+            return lot;
+        }
+        lot = section(lot, fd, values);
+        turns -= 1;
+    }
+    lot
+}
+
+fn section(lot: Lot, fd: i32, values: bool) -> Lot {
+    let mut space = [0u8; SECTION];
+    let k = io::read_full(fd, &mut space);
+    let place = behind(lot.place, fd, k == SECTION, k, values);
+    if place.stopped {
+        return moved(lot, place);
+    }
+    taken(lot, place, &space[..k], values)
+}
+
+fn taken(lot: Lot, p: Place, bytes: &[u8], values: bool) -> Lot {
+    let state = lot.state;
+    let t = state.section(bytes);
+    let tally = lot.tally;
+    let u = tally.section(bytes);
+    let place = checked(
+        p,
+        lot.place.at,
+        bytes,
+        t.refused,
+        u.refused,
+        state.count,
+        values,
+    );
+    let next = t.state;
+    tell(place, next.count, next.edge, values);
+    let counted = u.tally;
+    let header = lot.header;
+    Lot {
+        place: place,
+        header: header,
+        state: next,
+        tally: counted,
+    }
+}
+
+// The place behind a section that began at the byte `at`, or stopped where the judge or the tally refused it.
+fn checked(
+    p: Place,
+    at: u64,
+    bytes: &[u8],
+    refused: u64,
+    other: u64,
+    count: u64,
+    values: bool,
+) -> Place {
+    if refused != 0 {
+        let place = std::num::wrapping_add_u64(at, offset(refused, bytes, count) as u64);
+        told::refusal(values, p.file, place, refused);
+        return stopped(p);
+    }
+    if other != 0 {
+        told::refusal(values, p.file, at, other);
+        return stopped(p);
+    }
+    p
+}
+
+// A line for a file that was read to its end.
+fn tell(p: Place, count: u64, edge: u64, values: bool) {
+    if p.more | p.stopped {
+        return;
+    }
+    told::read(
+        values,
+        p.file,
+        std::num::wrapping_sub_u64(count, p.count),
+        p.edge,
+        edge,
+    );
+}
+
+// Where in the section the refused record begins: the one cut short, the one of step 0, the first past the limit.
+fn offset(refused: u64, bytes: &[u8], count: u64) -> usize {
+    if refused == 5 {
+        return bytes.len() - bytes.len() % 6;
+    }
+    if refused == 6 {
+        return step_of_zero(bytes);
+    }
+    if refused == 7 {
+        return past_limit(count);
+    }
+    0
+}
+
+fn past_limit(count: u64) -> usize {
+    if count <= State::LIMIT {
+        return (State::LIMIT - count) as usize * 6;
+    }
+    0
+}
+
+fn step_of_zero(bytes: &[u8]) -> usize {
+    let mut at: usize = 0;
+    while 6 <= bytes.len() - at {
+        if (bytes[at] == 0) & (bytes[at + 1] == 0) & (bytes[at + 2] == 0) {
+            return at;
+        }
+        at += 6;
+    }
+    at
+}
