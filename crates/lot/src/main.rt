@@ -2,6 +2,7 @@
 // bytes, and each ends between records. With --values before them the report has one `name value` a line, for another program.
 // However the records are cut into files, the verdict and the counts are those of the uncut recording (rules, Sections; tally, Lots).
 // A file that cannot be judged ends the report with a line that says which and why. A program has no exit status to set.
+mod ending;
 mod find;
 mod person;
 mod reading;

@@ -11,6 +11,15 @@ pub(crate) fn number(n: u64) {
     io::print_decimal(STDOUT_FILENO, n);
 }
 
+// One text or the other.
+pub(crate) fn either(first: bool, a: &[u8], b: &[u8]) {
+    if first {
+        put(a);
+    } else {
+        put(b);
+    }
+}
+
 // A text and a number.
 pub(crate) fn say(text: &[u8], n: u64) {
     put(text);

@@ -1,8 +1,8 @@
 // The report for another program: `name value`, one a line.
+use crate::ending::debt;
 use crate::find::Found;
 use crate::find::Named;
 use crate::person::count_at;
-use crate::person::debt;
 use crate::text::level;
 use crate::text::name;
 use crate::text::number;
