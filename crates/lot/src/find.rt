@@ -1,22 +1,8 @@
 // The second reading: where the two records of a broken verdict stand, and what they say.
 use answers::Verdict;
 use records::Record;
-
-// A record: its number, the argument that names its file, its first byte there, and what it says. Number 0: none.
-pub(crate) struct Found {
-    pub(crate) number: u64,
-    pub(crate) file: usize,
-    pub(crate) at: u64,
-    pub(crate) edge: u64,
-    pub(crate) kind: usize,
-    pub(crate) bank: u64,
-    pub(crate) a: u64,
-}
-
-pub(crate) struct Named {
-    pub(crate) record: Found,
-    pub(crate) partner: Found,
-}
+use report::Found;
+use report::Named;
 
 // The numbers that are looked for, and the place of the next record: its file, byte, number less one, the edge and the CKE level before it.
 struct Search {

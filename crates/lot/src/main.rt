@@ -2,14 +2,8 @@
 // bytes, and each ends between records. With --values before them the report has one `name value` a line, for another program.
 // However the records are cut into files, the verdict and the counts are those of the uncut recording (rules, Sections; tally, Lots).
 // A file that cannot be judged ends the report with a line that says which and why. A program has no exit status to set.
-mod ending;
 mod find;
-mod person;
 mod reading;
-mod text;
-mod told;
-mod values;
-mod words;
 
 use judge::Closed;
 use judge::State;
@@ -39,7 +33,7 @@ fn main() {
     let first = first_file(values);
     let end = os::arg_count();
     if end <= first {
-        text::put(b"usage: lot [--values] FILE..\n");
+        report::put(b"usage: lot [--values] FILE..\n");
         return;
     }
     answer(judged(values, first, end), values, first, end);
@@ -79,11 +73,11 @@ fn answer(lot: Lot, values: bool, first: usize, end: usize) {
     let c = state.close(state.edge);
     let tally = lot.tally;
     let header = lot.header;
-    report(c, tally, header, state.count, values, first, end);
+    told(c, tally, header, state.count, values, first, end);
 }
 
 // A state that was opened and whose last edge is the end is not refused.
-fn report(
+fn told(
     c: Closed,
     tally: Tally,
     header: [u8; 6],
@@ -93,14 +87,14 @@ fn report(
     end: usize,
 ) {
     if c.refused != 0 {
-        told::refusal(values, first, 0, c.refused);
+        report::told::refusal(values, first, 0, c.refused);
         return;
     }
     let v = c.verdict;
     let named = find::records(v, first, end);
     if values {
-        values::report(tally, count, named, c, header);
+        report::values::report(tally, count, named, c, header);
     } else {
-        person::report(tally, count, named, c, header);
+        report::person::report(tally, count, named, c, header);
     }
 }

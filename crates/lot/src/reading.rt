@@ -1,9 +1,9 @@
 // The first reading: each file's bytes, in sections of 6,000, through the judge and the tally.
 use crate::Lot;
 use crate::Place;
-use crate::told;
 use header::Header;
 use judge::State;
+use report::told;
 use tally::Tally;
 
 // A section's bytes.

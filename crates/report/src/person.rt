@@ -1,7 +1,7 @@
 // The report for a person.
+use crate::Found;
+use crate::Named;
 use crate::ending;
-use crate::find::Found;
-use crate::find::Named;
 use crate::text::column;
 use crate::text::either;
 use crate::text::level;
@@ -50,7 +50,7 @@ pub(crate) fn file(i: usize, records: u64, from: u64, to: u64) {
     put(b"\n");
 }
 
-pub(crate) fn report(t: Tally, count: u64, named: Named, c: Closed, header: [u8; 6]) {
+pub fn report(t: Tally, count: u64, named: Named, c: Closed, header: [u8; 6]) {
     let counts = t.counts;
     commands(counts);
     put(b"  all                                ");

@@ -8,7 +8,7 @@ use crate::values;
 use crate::words;
 use header::Header;
 
-pub(crate) fn part(values: bool, h: Header) {
+pub fn part(values: bool, h: Header) {
     if values {
         values::part(h);
     } else {
@@ -17,7 +17,7 @@ pub(crate) fn part(values: bool, h: Header) {
 }
 
 // A file that was read to its end: its records, the edge before it and its last.
-pub(crate) fn read(values: bool, file: usize, records: u64, from: u64, to: u64) {
+pub fn read(values: bool, file: usize, records: u64, from: u64, to: u64) {
     if values {
         values::file(file, records, from, to);
     } else {
@@ -26,7 +26,7 @@ pub(crate) fn read(values: bool, file: usize, records: u64, from: u64, to: u64) 
 }
 
 // A refusal of 01, at a byte of the file.
-pub(crate) fn refusal(values: bool, file: usize, at: u64, refused: u64) {
+pub fn refusal(values: bool, file: usize, at: u64, refused: u64) {
     begin(values, file);
     if values {
         value(b"refused", refused);
@@ -41,19 +41,19 @@ pub(crate) fn refusal(values: bool, file: usize, at: u64, refused: u64) {
     put(b"\n");
 }
 
-pub(crate) fn unopened(values: bool, file: usize, errno: i32) {
+pub fn unopened(values: bool, file: usize, errno: i32) {
     begin(values, file);
     why(values, b"it cannot be opened: ");
     words::errno(errno);
     put(b"\n");
 }
 
-pub(crate) fn empty(values: bool, file: usize) {
+pub fn empty(values: bool, file: usize) {
     begin(values, file);
     why(values, b"it is empty\n");
 }
 
-pub(crate) fn unread(values: bool, file: usize) {
+pub fn unread(values: bool, file: usize) {
     begin(values, file);
     why(values, b"it cannot be read to its end\n");
 }

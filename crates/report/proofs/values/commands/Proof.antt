@@ -2,8 +2,8 @@
 -- Assumes nothing.
 use Prim.Native.Nat.{_≤_, _-_}
 use borrow.Author.Needs.{needs}
-use Rattle.lot.proofs.values.commands.Statement.{statement}
-use Rattle.lot.proofs.values.commands.Tie as tie
+use Rattle.report.proofs.values.commands.Statement.{statement}
+use Rattle.report.proofs.values.commands.Tie as tie
 
 abbrev Inv-loop : tie.InvT-loop
 Inv-loop counts last₀ i₀ last i = i ≤ 24

@@ -3,7 +3,7 @@ use libc::STDOUT_FILENO;
 ghost use Prim.Native.Nat.{_≤_};
 ghost use lib.ListN.{length};
 
-pub(crate) fn put(text: &[u8]) {
+pub fn put(text: &[u8]) {
     io::write_all(STDOUT_FILENO, text);
 }
 

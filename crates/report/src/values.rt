@@ -1,7 +1,7 @@
 // The report for another program: `name value`, one a line.
+use crate::Found;
+use crate::Named;
 use crate::ending::debt;
-use crate::find::Found;
-use crate::find::Named;
 use crate::person::count_at;
 use crate::text::level;
 use crate::text::name;
@@ -35,7 +35,7 @@ pub(crate) fn file(i: usize, records: u64, from: u64, to: u64) {
     value(b"file_to_edge", to);
 }
 
-pub(crate) fn report(t: Tally, count: u64, named: Named, c: Closed, header: [u8; 6]) {
+pub fn report(t: Tally, count: u64, named: Named, c: Closed, header: [u8; 6]) {
     let counts = t.counts;
     commands(counts);
     value(b"count_all", count);
