@@ -1,10 +1,14 @@
--- One answer for each public contract: the row at a place.
+-- One answer for each public contract: the row at a place, the name of a kind.
 -- Assumes nothing.
 use Prim.Native.Nat.{ℕ}
 use mathlib.Core.Path.{_≡_}
+use mathlib.Core.List.{List}
 use Rattle.laws.proofs.Unique.{Unique, one-answer}
 use Rattle.glossary.specs.declared.Row.{Row}
-use Rattle.glossary.specs.Glossary.{rowOf}
+use Rattle.glossary.specs.Glossary.{rowOf, nameOf}
 
 pub row-unique : (place : ℕ) → Unique (λ (r : Row). r ≡ rowOf place)
 row-unique place = one-answer (rowOf place)
+
+pub name-unique : (kind : ℕ) → Unique (λ (r : List ℕ). r ≡ nameOf kind)
+name-unique kind = one-answer (nameOf kind)

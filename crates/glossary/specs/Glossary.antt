@@ -66,6 +66,34 @@ within most i = cond (ltb i most) i most
 unfoldable pub rowOf : (place : ℕ) → Row
 rowOf i = rowIn (getD rows (within 23 i) [])
 
+-- ── Names ─────────────────────────────────────────────────────────────────────────────────
+
+-- in ASCII, by kind, filled up with spaces: MRS, REF, PRE, PREA (all banks), ACT, WR, WRA, RD, RDA (auto precharge), ZQCL (long), ZQCS (short),
+-- NOP, DES, SRE, SRX, IGNORED (pins, while CKE is low), FORBIDDEN (change of CKE)
+unfoldable pub names : List (List ℕ)
+names =
+    (77 ∷ 82 ∷ 83 ∷ 32 ∷ 32 ∷ 32 ∷ 32 ∷ 32 ∷ 32 ∷ [])
+    ∷ (82 ∷ 69 ∷ 70 ∷ 32 ∷ 32 ∷ 32 ∷ 32 ∷ 32 ∷ 32 ∷ [])
+    ∷ (80 ∷ 82 ∷ 69 ∷ 32 ∷ 32 ∷ 32 ∷ 32 ∷ 32 ∷ 32 ∷ [])
+    ∷ (80 ∷ 82 ∷ 69 ∷ 65 ∷ 32 ∷ 32 ∷ 32 ∷ 32 ∷ 32 ∷ [])
+    ∷ (65 ∷ 67 ∷ 84 ∷ 32 ∷ 32 ∷ 32 ∷ 32 ∷ 32 ∷ 32 ∷ [])
+    ∷ (87 ∷ 82 ∷ 32 ∷ 32 ∷ 32 ∷ 32 ∷ 32 ∷ 32 ∷ 32 ∷ [])
+    ∷ (87 ∷ 82 ∷ 65 ∷ 32 ∷ 32 ∷ 32 ∷ 32 ∷ 32 ∷ 32 ∷ [])
+    ∷ (82 ∷ 68 ∷ 32 ∷ 32 ∷ 32 ∷ 32 ∷ 32 ∷ 32 ∷ 32 ∷ [])
+    ∷ (82 ∷ 68 ∷ 65 ∷ 32 ∷ 32 ∷ 32 ∷ 32 ∷ 32 ∷ 32 ∷ [])
+    ∷ (90 ∷ 81 ∷ 67 ∷ 76 ∷ 32 ∷ 32 ∷ 32 ∷ 32 ∷ 32 ∷ [])
+    ∷ (90 ∷ 81 ∷ 67 ∷ 83 ∷ 32 ∷ 32 ∷ 32 ∷ 32 ∷ 32 ∷ [])
+    ∷ (78 ∷ 79 ∷ 80 ∷ 32 ∷ 32 ∷ 32 ∷ 32 ∷ 32 ∷ 32 ∷ [])
+    ∷ (68 ∷ 69 ∷ 83 ∷ 32 ∷ 32 ∷ 32 ∷ 32 ∷ 32 ∷ 32 ∷ [])
+    ∷ (83 ∷ 82 ∷ 69 ∷ 32 ∷ 32 ∷ 32 ∷ 32 ∷ 32 ∷ 32 ∷ [])
+    ∷ (83 ∷ 82 ∷ 88 ∷ 32 ∷ 32 ∷ 32 ∷ 32 ∷ 32 ∷ 32 ∷ [])
+    ∷ (73 ∷ 71 ∷ 78 ∷ 79 ∷ 82 ∷ 69 ∷ 68 ∷ 32 ∷ 32 ∷ [])
+    ∷ (70 ∷ 79 ∷ 82 ∷ 66 ∷ 73 ∷ 68 ∷ 68 ∷ 69 ∷ 78 ∷ [])
+    ∷ []
+
+unfoldable pub nameOf : (kind : ℕ) → List ℕ
+nameOf k = getD names (within 16 k) []
+
 -- ── Which rows a record shows ───────────────────────────────────────────────────────────────
 
 -- the level of a pin is that of the row, or the row takes any

@@ -2,7 +2,7 @@
 // means. The report prints this table, and its rows are those of the definition: 01, "Commands and the 25 rules".
 ghost use mathlib.Core.Path.{_≡_};
 ghost use Prim.Native.Nat.{_+_, _<_};
-ghost use Rattle.glossary.specs.Glossary.{within, rowOf};
+ghost use Rattle.glossary.specs.Glossary.{within, rowOf, nameOf};
 
 // A kind of the tally, and levels: 0 low, 1 high, 2 any. CKE before and now; CS, RAS, CAS, WE; A10.
 pub struct Row {
@@ -110,7 +110,9 @@ pub fn row_at(i: usize) -> Row
 }
 
 // The name of a kind; above the last kind, that of the last.
-pub fn name_of(kind: usize) -> [u8; 9] {
+pub fn name_of(kind: usize) -> [u8; 9]
+    ensures { λ r. ⌜ r ≡ nameOf kind ⌝ }
+{
     let at = least(kind, 16);
     NAMES[at]
 }
