@@ -2,5 +2,10 @@ pub mod Marking
 pub mod Sections
 pub mod Ranging
 pub mod Folds
+pub mod Asking
+pub mod Easing
+pub mod Finding
+pub mod Running
+pub mod Turning
 pub mod Closing
 pub mod Answers

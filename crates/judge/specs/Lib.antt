@@ -1,5 +1,7 @@
 pub mod Marks
 pub mod Next
+pub mod Fine
+pub mod Easy
 pub mod Breaks
 pub mod Deadlines
 pub mod Step

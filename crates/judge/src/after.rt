@@ -1,15 +1,12 @@
 // What all banks share, after a record.
+use crate::Asks;
 use crate::Debt;
 use crate::Mark;
 use crate::Read;
 use crate::Shared;
 use crate::Written;
 use crate::Wrote;
-use crate::needs::need10;
-use crate::needs::need11;
-use crate::needs::need13;
-use crate::needs::need14;
-use crate::needs::need19;
+use crate::easy::asks_of;
 use crate::needs::rd_start;
 use crate::needs::wr_start;
 use crate::spaced::since;
@@ -22,6 +19,7 @@ ghost use Prim.Native.Nat.{_/_, _%_, _≤_};
 ghost use mathlib.Core.Bool.{cond};
 ghost use Rattle.records.specs.declared.Command.the-variants.{Act, Pre, Rd, Wr, Mrs, Ref, Zq, Sre, Srx};
 ghost use Rattle.judge.specs.Next as next;
+ghost use Rattle.judge.specs.Easy.{Asked};
 ghost use Rattle.judge.specs.Ranges.{Small, farEdge};
 
 // a: the ACT edge of the record's bank.
@@ -59,8 +57,8 @@ fn marked_next(chip: Chip, c: Command, r: Record, e: u64, n: u64, a: u64, s: Sha
         Command::Ref => after_ref(chip, r, e, n, a, s),
         Command::Pre => after_pre(chip, r, e, n, a, s),
         Command::Act => after_act(chip, r, e, n, a, s),
-        Command::Wr => after_wr(chip, r, e, n, a, s),
-        Command::Rd => after_rd(chip, r, e, n, a, s),
+        Command::Wr => after_wr(chip, asks_of(chip, s.regs), r, e, n, a, s),
+        Command::Rd => after_rd(chip, asks_of(chip, s.regs), r, e, n, a, s),
         Command::Zq => after_zq(chip, r, e, n, a, s),
         Command::Nop => s,
         Command::Des => s,
@@ -138,7 +136,7 @@ fn mark(e: u64, n: u64, need: u64) -> Mark
     }
 }
 
-fn after_act(chip: Chip, r: Record, e: u64, n: u64, a: u64, s: Shared) -> Shared
+pub(crate) fn after_act(chip: Chip, r: Record, e: u64, n: u64, a: u64, s: Shared) -> Shared
     ensures { λ x. ⌜ x ≡ next.markedNext chip Act r e n a s ⌝ }
 {
     let a0 = s.acts[0];
@@ -149,7 +147,7 @@ fn after_act(chip: Chip, r: Record, e: u64, n: u64, a: u64, s: Shared) -> Shared
     x
 }
 
-fn after_pre(chip: Chip, r: Record, e: u64, n: u64, a: u64, s: Shared) -> Shared
+pub(crate) fn after_pre(chip: Chip, r: Record, e: u64, n: u64, a: u64, s: Shared) -> Shared
     ensures { λ x. ⌜ x ≡ next.markedNext chip Pre r e n a s ⌝ }
 {
     let mut x = s;
@@ -167,33 +165,46 @@ fn later_start(m: Mark, f: u64, n: u64, trp: u64) -> Mark
     m
 }
 
-fn after_rd(chip: Chip, r: Record, e: u64, n: u64, a: u64, s: Shared) -> Shared
+// w: what the registers in force ask for.
+pub(crate) fn after_rd(chip: Chip, w: Asks, r: Record, e: u64, n: u64, a: u64, s: Shared) -> Shared
     requires { ⌜ Small chip ⌝ }
     requires { ⌜ e ≤ farEdge ⌝ }
     requires { ⌜ a ≤ farEdge ⌝ }
+    requires { ⌜ Asked chip (s .regs) w ⌝ }
     ensures { λ x. ⌜ x ≡ next.markedNext chip Rd r e n a s ⌝ }
 {
     let g = s.regs;
+    let long = r.a / 4096 % 2 == 1;
     let mut x = s;
     let read = Read {
         at: e,
         num: n,
-        n10: need10(chip, g),
-        n13: need13(g, r.a),
-        n19: need19(g, r.a),
+        n10: w.n10,
+        n13: one_of(long, w.long13, w.short13),
+        n19: one_of(long, w.long19, w.short19),
     };
     x.read = read;
     if r.a / 1024 % 2 == 1 {
-        let f = rd_start(chip, e, g, a);
+        let f = rd_start(chip, w, e, g, a);
         x.shut = later_start(s.shut, f, n, chip.trp);
         return x;
     }
     x
 }
 
-fn after_wr(chip: Chip, r: Record, e: u64, n: u64, a: u64, s: Shared) -> Shared
+fn one_of(yes: bool, a: u64, b: u64) -> u64
+    ensures { λ r. ⌜ r ≡ cond yes a b ⌝ }
+{
+    if yes {
+        return a;
+    }
+    b
+}
+
+pub(crate) fn after_wr(chip: Chip, w: Asks, r: Record, e: u64, n: u64, a: u64, s: Shared) -> Shared
     requires { ⌜ Small chip ⌝ }
     requires { ⌜ e ≤ farEdge ⌝ }
+    requires { ⌜ Asked chip (s .regs) w ⌝ }
     ensures { λ x. ⌜ x ≡ next.markedNext chip Wr r e n a s ⌝ }
 {
     let g = s.regs;
@@ -201,12 +212,12 @@ fn after_wr(chip: Chip, r: Record, e: u64, n: u64, a: u64, s: Shared) -> Shared
     let wrote = Wrote {
         at: e,
         num: n,
-        n11: need11(chip, g),
-        n14: need14(chip, g),
+        n11: w.n11,
+        n14: w.n14,
     };
     x.wrote = wrote;
     if r.a / 1024 % 2 == 1 {
-        let f = wr_start(chip, e, g, a);
+        let f = wr_start(chip, w, e, g, a);
         x.shut = later_start(s.shut, f, n, chip.trp);
         return x;
     }

@@ -1,9 +1,8 @@
 // One bank: its status, its due edge under rule 24, and what a record makes of it.
+use crate::Asks;
 use crate::Kept;
 use crate::Mark;
-use crate::needs::need4;
-use crate::needs::need10;
-use crate::needs::need11;
+use crate::easy::asks_of;
 use crate::needs::rd_start;
 use crate::needs::wide;
 use crate::needs::wr_start;
@@ -17,6 +16,7 @@ ghost use Prim.Native.Nat.{_≤_};
 ghost use Rattle.records.specs.declared.Command.the-variants.{Act, Rd, Wr};
 ghost use Rattle.judge.specs.Next as next;
 ghost use Rattle.judge.specs.Breaks.{statusOf};
+ghost use Rattle.judge.specs.Easy.{Asked};
 ghost use Rattle.judge.specs.Ranges.{Small, farEdge};
 
 // The bank at an edge after the latest record.
@@ -67,9 +67,9 @@ pub(crate) fn kept_next(chip: Chip, c: Command, r: Record, e: u64, n: u64, g: Re
         Command::Mrs => k,
         Command::Ref => k,
         Command::Pre => shut_by(k, e, n, chip.trp),
-        Command::Act => acted(chip, r, e, n, g, k),
-        Command::Wr => written(chip, r, e, n, g, k),
-        Command::Rd => read(chip, r, e, n, g, k),
+        Command::Act => acted(chip, asks_of(chip, g), r, e, n, g, k),
+        Command::Wr => written(chip, asks_of(chip, g), r, e, n, g, k),
+        Command::Rd => read(chip, asks_of(chip, g), r, e, n, g, k),
         Command::Zq => k,
         Command::Nop => k,
         Command::Des => k,
@@ -101,58 +101,59 @@ fn shut_by(k: Kept, f: u64, n: u64, need: u64) -> Kept
     x
 }
 
-fn acted(chip: Chip, r: Record, e: u64, n: u64, g: Regs, k: Kept) -> Kept
+// w: what the registers g ask for.
+pub(crate) fn acted(chip: Chip, w: Asks, r: Record, e: u64, n: u64, g: Regs, k: Kept) -> Kept
+    requires { ⌜ Asked chip g w ⌝ }
     ensures { λ x. ⌜ x ≡ next.keptNext chip Act r e n g k ⌝ }
 {
-    let need = need4(chip.trcd, chip::al_of(g));
     let row = wide(r.a);
     let mut x = k;
     let acted = Mark {
         at: e,
         num: n,
-        need: need,
+        need: w.n4,
     };
     x.acted = acted;
     x.row = row;
     x
 }
 
-fn read(chip: Chip, r: Record, e: u64, n: u64, g: Regs, k: Kept) -> Kept
+pub(crate) fn read(chip: Chip, w: Asks, r: Record, e: u64, n: u64, g: Regs, k: Kept) -> Kept
     requires { ⌜ Small chip ⌝ }
     requires { ⌜ e ≤ farEdge ⌝ }
     requires { ⌜ k .acted .at ≤ farEdge ⌝ }
+    requires { ⌜ Asked chip g w ⌝ }
     ensures { λ x. ⌜ x ≡ next.keptNext chip Rd r e n g k ⌝ }
 {
-    let need = need10(chip, g);
     let mut x = k;
     let read = Mark {
         at: e,
         num: n,
-        need: need,
+        need: w.n10,
     };
     x.read = read;
     if r.a / 1024 % 2 == 1 {
-        let f = rd_start(chip, e, g, k.acted.at);
+        let f = rd_start(chip, w, e, g, k.acted.at);
         return shut_by(x, f, n, chip.trp);
     }
     x
 }
 
-fn written(chip: Chip, r: Record, e: u64, n: u64, g: Regs, k: Kept) -> Kept
+pub(crate) fn written(chip: Chip, w: Asks, r: Record, e: u64, n: u64, g: Regs, k: Kept) -> Kept
     requires { ⌜ Small chip ⌝ }
     requires { ⌜ e ≤ farEdge ⌝ }
+    requires { ⌜ Asked chip g w ⌝ }
     ensures { λ x. ⌜ x ≡ next.keptNext chip Wr r e n g k ⌝ }
 {
-    let need = need11(chip, g);
     let mut x = k;
     let wrote = Mark {
         at: e,
         num: n,
-        need: need,
+        need: w.n11,
     };
     x.wrote = wrote;
     if r.a / 1024 % 2 == 1 {
-        let f = wr_start(chip, e, g, k.acted.at);
+        let f = wr_start(chip, w, e, g, k.acted.at);
         return shut_by(x, f, n, chip.trp);
     }
     x

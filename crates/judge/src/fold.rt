@@ -1,14 +1,32 @@
 // A section's records, one after the other, into a state that stays in one place.
 use crate::Kept;
 use crate::State;
+use crate::after::after_act;
+use crate::after::after_pre;
+use crate::after::after_rd;
+use crate::after::after_wr;
+use crate::bank::acted;
 use crate::bank::due;
 use crate::bank::kept_next;
 use crate::bank::kept_shut;
+use crate::bank::read;
+use crate::bank::written;
 use crate::breaks::barred;
 use crate::breaks::first_barred;
 use crate::breaks::speaks_of_all;
 use crate::deadlines::late24;
 use crate::deadlines::soonest;
+use crate::easy::asks_of;
+use crate::easy::clear_of;
+use crate::easy::free_of;
+use crate::easy::passed_all;
+use crate::easy::rank_if;
+use crate::easy::until;
+use crate::fine::fine_act;
+use crate::fine::fine_pre;
+use crate::fine::fine_rd;
+use crate::fine::fine_rest;
+use crate::fine::fine_wr;
 use crate::says::turn;
 use chip::Chip;
 use records::Command;
@@ -23,27 +41,81 @@ ghost use Rattle.judge.specs.Next as next;
 ghost use Rattle.judge.specs.Step as step;
 ghost use Rattle.judge.specs.Ranges.{Small, farEdge, NearBanks, Ready};
 
+// The frequent commands come first, each with what it changes alone: a function cannot be lent a struct, and the state is not copied.
+// w, free, clear: what they ask for, from where on and up to where nothing else can happen.
 pub(crate) fn fold(chip: Chip, s: State, bytes: &[u8]) -> State
     requires { ⌜ Ready chip s (now bytes) ⌝ }
     ensures { λ r. ⌜ r ≡ step.foldOf chip s (records (now (bytes .entry))) ⌝ }
 {
     let mut n = s;
+    let mut t = s.shared;
+    let mut w = asks_of(chip, t.regs);
+    let mut free = free_of(chip, t);
+    let dues = s.dues;
+    let mut clear = clear_of(chip.trefi, s.first.outcome, dues, s.edge, t.debt);
     let mut at: usize = 0;
     while at < bytes.len() {
         let r = record_at(bytes, at);
         at += 6;
-        let e = n.edge + r.step;
+        let edge = n.edge;
+        let e = edge + r.step;
         let no = n.count + 1;
-        let first = n.first;
-        if first.outcome != 0 {
-            n.edge = e;
-            n.count = no;
-            continue;
-        }
-        let s = n.shared;
-        let c = records::command_of(s.level, r);
+        n.edge = e;
+        n.count = no;
         let b = (r.bank % 8) as usize;
         let k = n.banks[b];
+        let c = records::command_of(t.level, r);
+        let p = passed_all(r, e, t);
+        let q = rank_if(e, clear, free, c);
+        if fine_act(chip, q, e, k, t) {
+            let x = acted(chip, w, r, e, no, t.regs, k);
+            t = after_act(chip, r, e, no, k.acted.at, p);
+            n.banks[b] = x;
+            let d = due(chip, x);
+            n.dues[b] = d;
+            clear = until(e, d, clear);
+            continue;
+        }
+        if fine_rd(q, e, k, t) {
+            let x = read(chip, w, r, e, no, t.regs, k);
+            t = after_rd(chip, w, r, e, no, k.acted.at, p);
+            n.banks[b] = x;
+            let d = due(chip, x);
+            n.dues[b] = d;
+            clear = until(e, d, clear);
+            continue;
+        }
+        if fine_wr(q, e, k, t) {
+            let x = written(chip, w, r, e, no, t.regs, k);
+            t = after_wr(chip, w, r, e, no, k.acted.at, p);
+            n.banks[b] = x;
+            let d = due(chip, x);
+            n.dues[b] = d;
+            clear = until(e, d, clear);
+            continue;
+        }
+        if fine_pre(chip, q, r.a / 1024 % 2, e, k) {
+            let x = kept_shut(chip, e, no, k);
+            t = after_pre(chip, r, e, no, k.acted.at, p);
+            n.banks[b] = x;
+            let d = due(chip, x);
+            n.dues[b] = d;
+            clear = until(e, d, clear);
+            continue;
+        }
+        if fine_rest(q) {
+            let x = k;
+            t = p;
+            n.banks[b] = x;
+            let d = due(chip, x);
+            n.dues[b] = d;
+            clear = until(e, d, clear);
+            continue;
+        }
+        let first = n.first;
+        if first.outcome != 0 {
+            continue;
+        }
         let two = if speaks_of_all(c, r) {
             let ks = n.banks;
             first_barred(c, ks, e)
@@ -51,30 +123,35 @@ pub(crate) fn fold(chip: Chip, s: State, bytes: &[u8]) -> State
             barred(c, k, e)
         };
         let dues = n.dues;
-        let pick = soonest(dues, n.edge, e + 1);
-        let p = pick.bank as usize;
-        let x24 = late24(pick.at, n.banks[p].acted.num, chip.most);
-        let said = turn(chip, c, r, e, no, n.edge, k, two, x24, s);
+        let pick = soonest(dues, edge, e + 1);
+        let late = pick.bank as usize;
+        let x24 = late24(pick.at, n.banks[late].acted.num, chip.most);
+        let said = turn(chip, c, r, e, no, edge, k, two, x24, t);
         let v = said.verdict;
-        n.edge = e;
-        n.count = no;
         if v.outcome != 0 {
             n.first = v;
+            clear = 0;
             continue;
         }
-        let t = said.shared;
-        n.shared = t;
+        t = said.shared;
+        w = asks_of(chip, t.regs);
+        free = free_of(chip, t);
         if pre_all(c, r) {
             let ks = n.banks;
             let shut = shut_all(chip, e, no, ks);
+            let ds = dues_of(chip, shut);
             n.banks = shut;
-            n.dues = dues_of(chip, shut);
+            n.dues = ds;
+            clear = clear_of(chip.trefi, first.outcome, ds, e, t.debt);
             continue;
         }
         let x = kept_next(chip, c, r, e, no, t.regs, k);
         n.banks[b] = x;
         n.dues[b] = due(chip, x);
+        let ds = n.dues;
+        clear = clear_of(chip.trefi, first.outcome, ds, e, t.debt);
     }
+    n.shared = t;
     n
 }
 

@@ -4,6 +4,8 @@ mod bank;
 mod breaks;
 mod calls;
 mod deadlines;
+mod easy;
+mod fine;
 mod fold;
 mod needs;
 mod ranges;
@@ -141,6 +143,20 @@ pub struct Late {
     pub partner: u64,
     pub needed: u64,
     pub found: u64,
+}
+
+// The clocks that ACT, RD and WR leave behind under the registers in force: what rules 4, 10, 11, 14, 13 and 19 need, and from a WR to
+// the start of its auto precharge. long and short: of a read with A12 and without.
+pub struct Asks {
+    pub n4: u64,
+    pub n10: u64,
+    pub n11: u64,
+    pub n14: u64,
+    pub start: u64,
+    pub long13: u64,
+    pub short13: u64,
+    pub long19: u64,
+    pub short19: u64,
 }
 
 // What is said of a record, and what all banks share after it.

@@ -1,4 +1,5 @@
 // The clocks that a record needs, by the registers in force at it, and the start of an auto precharge.
+use crate::Asks;
 use crate::spaced::since;
 use chip::Chip;
 use chip::Regs;
@@ -7,6 +8,7 @@ ghost use Prim.Native.Nat.{_+_, _-_, _≤_, max};
 ghost use Rattle.records.specs.declared.Command.the-variants.{Rd, Wr};
 ghost use Rattle.chip.specs.Latencies.{alOf, clOf, cwlOf, hOf, bOf};
 ghost use Rattle.judge.specs.Next as next;
+ghost use Rattle.judge.specs.Easy.{Asked};
 ghost use Rattle.judge.specs.Ranges.{Small, farEdge};
 
 pub(crate) fn need4(trcd: u64, al: u64) -> u64
@@ -49,24 +51,26 @@ pub(crate) fn need19(g: Regs, a: u16) -> u64
 }
 
 // The later of ACT + tRAS and RD + AL + tRTP.
-pub(crate) fn rd_start(chip: Chip, e: u64, g: Regs, a: u64) -> u64
+pub(crate) fn rd_start(chip: Chip, w: Asks, e: u64, g: Regs, a: u64) -> u64
     requires { ⌜ Small chip ⌝ }
     requires { ⌜ e ≤ farEdge ⌝ }
     requires { ⌜ a ≤ farEdge ⌝ }
+    requires { ⌜ Asked chip g w ⌝ }
     ensures { λ x. ⌜ x ≡ next.startNow chip Rd e g a ⌝ }
 {
-    most_of(a + chip.tras, e + chip::al_of(g) + chip.trtp)
+    most_of(a + chip.tras, e + w.n10)
 }
 
 // WR + WL + h + programmed WR.
-pub(crate) fn wr_start(chip: Chip, e: u64, g: Regs, a: u64) -> u64
+pub(crate) fn wr_start(chip: Chip, w: Asks, e: u64, g: Regs, a: u64) -> u64
     requires { ⌜ e ≤ farEdge ⌝ }
+    requires { ⌜ Asked chip g w ⌝ }
     ensures { λ x. ⌜ x ≡ next.startNow chip Wr e g a ⌝ }
 {
-    e + (chip::al_of(g) + chip::cwl_of(g)) + chip::h_of(g) + chip::wr_of(g)
+    e + w.start
 }
 
-fn most_of(a: u64, b: u64) -> u64
+pub(crate) fn most_of(a: u64, b: u64) -> u64
     ensures { λ r. ⌜ r ≡ max a b ⌝ }
 {
     if a < b {

@@ -148,7 +148,7 @@ fn rule23(s: Shared) -> Break
     Break::Fine
 }
 
-fn as10(s: Read) -> Mark
+pub(crate) fn as10(s: Read) -> Mark
     ensures { λ x. ⌜ x ≡ marks.as10 s ⌝ }
 {
     Mark {
@@ -158,7 +158,7 @@ fn as10(s: Read) -> Mark
     }
 }
 
-fn as13(s: Read) -> Mark
+pub(crate) fn as13(s: Read) -> Mark
     ensures { λ x. ⌜ x ≡ marks.as13 s ⌝ }
 {
     Mark {
@@ -178,7 +178,7 @@ fn as19(s: Read) -> Mark
     }
 }
 
-fn as11(s: Wrote) -> Mark
+pub(crate) fn as11(s: Wrote) -> Mark
     ensures { λ x. ⌜ x ≡ marks.as11 s ⌝ }
 {
     Mark {
@@ -188,7 +188,7 @@ fn as11(s: Wrote) -> Mark
     }
 }
 
-fn as14(s: Wrote) -> Mark
+pub(crate) fn as14(s: Wrote) -> Mark
     ensures { λ x. ⌜ x ≡ marks.as14 s ⌝ }
 {
     Mark {

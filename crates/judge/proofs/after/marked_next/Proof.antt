@@ -34,11 +34,17 @@ after-act-requires c κs = search needs
 enum-told-5 : tie.Need-enum-told-5
 enum-told-5 c = search needs
 
+asks-of-requires : tie.Need-asks-of-requires
+asks-of-requires c κs = search needs
+
 after-wr-requires : tie.Need-after-wr-requires
 after-wr-requires c κs = search needs
 
 enum-told-6 : tie.Need-enum-told-6
 enum-told-6 c = search needs
+
+asks-of-requires-2 : tie.Need-asks-of-requires-2
+asks-of-requires-2 c κs = search needs
 
 after-rd-requires : tie.Need-after-rd-requires
 after-rd-requires c κs = search needs
@@ -91,11 +97,11 @@ returns-4 c = c .after-act .ensures ∙ ap (λ (x : Command). markedNext (c .bef
 
 returns-5 : tie.Need-returns-5
 unfolding markedNext actsNext restsNext regsNext writtenNext readNext wroteNext shutNext
-returns-5 c = c .after-wr .ensures ∙ ap (λ (x : Command). markedNext (c .before .before .before .args .chip) x (c .before .before .before .args .r) (c .before .before .before .args .e) (c .before .before .before .args .n) (c .before .before .before .args .a) (c .before .before .before .args .s)) (sym (c .before .enum-told5 .given .1))
+returns-5 c = c .after-wr .ensures ∙ ap (λ (x : Command). markedNext (c .before .before .before .before .args .chip) x (c .before .before .before .before .args .r) (c .before .before .before .before .args .e) (c .before .before .before .before .args .n) (c .before .before .before .before .args .a) (c .before .before .before .before .args .s)) (sym (c .before .before .enum-told5 .given .1))
 
 returns-6 : tie.Need-returns-6
 unfolding markedNext actsNext restsNext regsNext writtenNext readNext wroteNext shutNext
-returns-6 c = c .after-rd .ensures ∙ ap (λ (x : Command). markedNext (c .before .before .before .args .chip) x (c .before .before .before .args .r) (c .before .before .before .args .e) (c .before .before .before .args .n) (c .before .before .before .args .a) (c .before .before .before .args .s)) (sym (c .before .enum-told6 .given .1))
+returns-6 c = c .after-rd .ensures ∙ ap (λ (x : Command). markedNext (c .before .before .before .before .args .chip) x (c .before .before .before .before .args .r) (c .before .before .before .before .args .e) (c .before .before .before .before .args .n) (c .before .before .before .before .args .a) (c .before .before .before .before .args .s)) (sym (c .before .before .enum-told6 .given .1))
 
 returns-7 : tie.Need-returns-7
 unfolding markedNext actsNext restsNext regsNext writtenNext readNext wroteNext shutNext
@@ -138,8 +144,10 @@ marked-next-spec =
     enum-told-4
     after-act-requires
     enum-told-5
+    asks-of-requires
     after-wr-requires
     enum-told-6
+    asks-of-requires-2
     after-rd-requires
     enum-told-7
     after-zq-requires

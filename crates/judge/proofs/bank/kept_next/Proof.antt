@@ -22,17 +22,26 @@ shut-by-requires c κs = search needs
 enum-told-4 : tie.Need-enum-told-4
 enum-told-4 c = search needs
 
+asks-of-requires : tie.Need-asks-of-requires
+asks-of-requires c κs = search needs
+
 acted-requires : tie.Need-acted-requires
 acted-requires c κs = search needs
 
 enum-told-5 : tie.Need-enum-told-5
 enum-told-5 c = search needs
 
+asks-of-requires-2 : tie.Need-asks-of-requires-2
+asks-of-requires-2 c κs = search needs
+
 written-requires : tie.Need-written-requires
 written-requires c κs = search needs
 
 enum-told-6 : tie.Need-enum-told-6
 enum-told-6 c = search needs
+
+asks-of-requires-3 : tie.Need-asks-of-requires-3
+asks-of-requires-3 c κs = search needs
 
 read-requires : tie.Need-read-requires
 read-requires c κs = search needs
@@ -72,15 +81,15 @@ returns-3 c = c .shut-by .ensures ∙ ap (λ (x : Command). keptNext (c .before 
 
 returns-4 : tie.Need-returns-4
 unfolding keptNext startNow
-returns-4 c = c .acted .ensures ∙ ap (λ (x : Command). keptNext (c .before .before .before .args .chip) x (c .before .before .before .args .r) (c .before .before .before .args .e) (c .before .before .before .args .n) (c .before .before .before .args .g) (c .before .before .before .args .k)) (sym (c .before .enum-told4 .given .1))
+returns-4 c = c .acted .ensures ∙ ap (λ (x : Command). keptNext (c .before .before .before .before .args .chip) x (c .before .before .before .before .args .r) (c .before .before .before .before .args .e) (c .before .before .before .before .args .n) (c .before .before .before .before .args .g) (c .before .before .before .before .args .k)) (sym (c .before .before .enum-told4 .given .1))
 
 returns-5 : tie.Need-returns-5
 unfolding keptNext startNow
-returns-5 c = c .written .ensures ∙ ap (λ (x : Command). keptNext (c .before .before .before .args .chip) x (c .before .before .before .args .r) (c .before .before .before .args .e) (c .before .before .before .args .n) (c .before .before .before .args .g) (c .before .before .before .args .k)) (sym (c .before .enum-told5 .given .1))
+returns-5 c = c .written .ensures ∙ ap (λ (x : Command). keptNext (c .before .before .before .before .args .chip) x (c .before .before .before .before .args .r) (c .before .before .before .before .args .e) (c .before .before .before .before .args .n) (c .before .before .before .before .args .g) (c .before .before .before .before .args .k)) (sym (c .before .before .enum-told5 .given .1))
 
 returns-6 : tie.Need-returns-6
 unfolding keptNext startNow
-returns-6 c = c .read .ensures ∙ ap (λ (x : Command). keptNext (c .before .before .before .args .chip) x (c .before .before .before .args .r) (c .before .before .before .args .e) (c .before .before .before .args .n) (c .before .before .before .args .g) (c .before .before .before .args .k)) (sym (c .before .enum-told6 .given .1))
+returns-6 c = c .read .ensures ∙ ap (λ (x : Command). keptNext (c .before .before .before .before .args .chip) x (c .before .before .before .before .args .r) (c .before .before .before .before .args .e) (c .before .before .before .before .args .n) (c .before .before .before .before .args .g) (c .before .before .before .before .args .k)) (sym (c .before .before .enum-told6 .given .1))
 
 returns-7 : tie.Need-returns-7
 unfolding keptNext startNow
@@ -119,10 +128,13 @@ kept-next-spec =
     enum-told-3
     shut-by-requires
     enum-told-4
+    asks-of-requires
     acted-requires
     enum-told-5
+    asks-of-requires-2
     written-requires
     enum-told-6
+    asks-of-requires-3
     read-requires
     enum-told-7
     enum-told-8

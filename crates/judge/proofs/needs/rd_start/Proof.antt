@@ -1,8 +1,9 @@
--- The later of two edges.
+-- The later of the two.
 -- Assumes nothing.
-use borrow.Author.Tests.{lt-ltb, le-ltb, le-leb, lt-leb, eq-eqb, ne-eqb}
-use mathlib.Core.Path.{refl, sym, ap, _∙_}
+use mathlib.Core.Path.{_∙_}
+use Rattle.judge.proofs.Asking.{rd-starts}
 use Rattle.judge.specs.Next.{startNow}
+use borrow.Author.Tests.{lt-ltb, le-ltb, eq-eqb, ne-eqb}
 use borrow.Author.Needs.{needs}
 use Rattle.judge.proofs.needs.rd_start.Statement.{statement}
 use Rattle.judge.proofs.needs.rd_start.Tie as tie
@@ -10,23 +11,14 @@ use Rattle.judge.proofs.needs.rd_start.Tie as tie
 add-most-of : tie.Need-add-most-of
 add-most-of c = search needs
 
-al-of-requires : tie.Need-al-of-requires
-al-of-requires c κs = search needs
-
 add-most-of-2 : tie.Need-add-most-of-2
 add-most-of-2 c = search needs
-
-add-most-of-3 : tie.Need-add-most-of-3
-add-most-of-3 c = search needs
 
 most-of-requires : tie.Need-most-of-requires
 most-of-requires c κs = search needs
 
 returns : tie.Need-returns
-unfolding startNow
-returns c = simp (c .most-of .ensures, c .before .before .al-of .ensures .0)
+returns c = c .most-of .ensures ∙ rd-starts _ _ _ (c .before .before .before .pre .1 .1 .1) _ _
 
 pub rd-start-spec : {M : Type 1} → statement M
-rd-start-spec =
-    tie.close
-    (tie.spec add-most-of al-of-requires add-most-of-2 add-most-of-3 most-of-requires returns)
+rd-start-spec = tie.close (tie.spec add-most-of add-most-of-2 most-of-requires returns)

@@ -1,0 +1,17 @@
+-- The debt alone is worked out.
+-- Assumes nothing.
+use Rattle.judge.specs.Easy.{passedAll}
+use borrow.Author.Tests.{lt-ltb, le-ltb, eq-eqb, ne-eqb}
+use borrow.Author.Needs.{needs}
+use Rattle.judge.proofs.easy.passed_all.Statement.{statement}
+use Rattle.judge.proofs.easy.passed_all.Tie as tie
+
+passed-by-requires : tie.Need-passed-by-requires
+passed-by-requires c κs = search needs
+
+returns : tie.Need-returns
+unfolding passedAll
+returns c = simp (c .passed-by .ensures)
+
+pub passed-all-spec : {M : Type 1} → statement M
+passed-all-spec = tie.close (tie.spec passed-by-requires returns)
