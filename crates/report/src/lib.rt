@@ -1,4 +1,5 @@
-// What the report on a lot's files prints, for a person or for another program. Nothing here has a contract beyond safety.
+// What the report on a lot's files prints, for a person or for another program. What is written to standard
+// output is under no contract; which count stands in a row, and how a level is shown, is.
 mod ending;
 pub mod person;
 mod text;

@@ -17,6 +17,10 @@ use glossary::Row;
 use header::Header;
 use judge::Closed;
 use tally::Tally;
+ghost use mathlib.Core.Path.{_≡_};
+ghost use mathlib.Core.Bool.{cond};
+ghost use lib.Dec.{ltb};
+ghost use lib.ListN.{getD};
 
 pub(crate) fn part(h: Header) {
     say(b"Part: bin ", h.bin as u64);
@@ -127,7 +131,10 @@ fn levels(w: Row) {
     put(&text);
 }
 
-pub(crate) fn count_at(counts: [u64; 17], kind: u64) -> u64 {
+// The count of a row's own kind.
+pub(crate) fn count_at(counts: [u64; 17], kind: u64) -> u64
+    ensures { λ r. ⌜ r ≡ cond (ltb kind 17) (getD counts kind 0) 0 ⌝ }
+{
     if kind < 17 {
         let k = kind as usize;
         return counts[k];

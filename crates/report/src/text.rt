@@ -1,5 +1,8 @@
 // Words and numbers on standard output.
 use libc::STDOUT_FILENO;
+ghost use mathlib.Core.Path.{_≡_};
+ghost use mathlib.Core.Bool.{cond};
+ghost use lib.Dec.{eqb};
 ghost use Prim.Native.Nat.{_≤_};
 ghost use lib.ListN.{length};
 
@@ -52,12 +55,16 @@ fn filled(text: &[u8]) -> usize
 }
 
 // A level of the glossary: x for any.
-pub(crate) fn level(l: u64) -> u8 {
-    match l {
-        0 => b'0',
-        1 => b'1',
-        _ => b'x',
+pub(crate) fn level(l: u64) -> u8
+    ensures { λ r. ⌜ r ≡ cond (eqb l 0) 48 (cond (eqb l 1) 49 120) ⌝ }
+{
+    if l == 0 {
+        return b'0';
     }
+    if l == 1 {
+        return b'1';
+    }
+    b'x'
 }
 
 // The file that argument i names.

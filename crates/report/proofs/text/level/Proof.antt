@@ -1,0 +1,17 @@
+-- 0, 1 or x.
+-- Assumes nothing.
+use borrow.Author.Tests.{eq-eqb, ne-eqb}
+use Rattle.report.proofs.text.level.Statement.{statement}
+use Rattle.report.proofs.text.level.Tie as tie
+
+returns : tie.Need-returns
+returns c = rw (eq-eqb _ _ (c .if1 .taken))
+
+returns-2 : tie.Need-returns-2
+returns-2 c = rw (ne-eqb _ _ (c .before .if1 .left), eq-eqb _ _ (c .if2 .taken))
+
+returns-3 : tie.Need-returns-3
+returns-3 c = rw (ne-eqb _ _ (c .before .if1 .left), ne-eqb _ _ (c .if2 .left))
+
+pub level-spec : {M : Type 1} → statement M
+level-spec = tie.close (tie.spec returns returns-2 returns-3)
