@@ -1,6 +1,4 @@
-pub mod Marks
 pub mod Next
-pub mod Breaks
 pub mod Deadlines
 pub mod Step
 pub mod Ranges
