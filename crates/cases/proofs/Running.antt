@@ -20,10 +20,10 @@ use Rattle.records.specs.Command.{byPins, falling, rising, commandOf}
 use Rattle.chip.specs.Chip.{chipOf}
 use Rattle.chip.specs.Latencies.{hOf, bOf}
 use Rattle.answers.specs.declared.Verdict.{Verdict}
+use Rattle.kept.specs.Breaks.{orElse, statusOf, lowest, rule2, rule3, waits, spacings}
+use Rattle.kept.specs.Marks.{needing, spaced}
 use Rattle.judge.specs.Calls.{startOf, freshShared, freshState, sectionOf, verdictOf, closedOf, notClosed, closeOf}
-use Rattle.judge.specs.Breaks.{orElse, statusOf, lowest, rule2, rule3, waits, spacings}
 use Rattle.judge.specs.Deadlines.{better, soonest, sooner, next24, next25, nextLate}
-use Rattle.judge.specs.Marks.{needing, spaced}
 use Rattle.judge.specs.Next.{regsNext, writtenNext, startNow, keptNext, keptShut, banksNext, due, duesNext, actsNext, readNext, wroteNext, shutNext, restsNext, debtNext, markedNext, sharedNext}
 use Rattle.judge.specs.Ranges.{lastEdge, banksOk, inRange}
 use Rattle.judge.specs.Step.{saysBy, turnOf, turnIn, movedOf, stoppedOf, stepOf, soFar}

@@ -12,8 +12,8 @@ use Rattle.chip.specs.declared.Chip.{Chip}
 use Rattle.chip.specs.declared.Regs.{Regs}
 use Rattle.chip.specs.Latencies.{alOf, clOf, cwlOf, wrOf, hOf, bOf}
 use Rattle.judge.specs.declared.Asks.{Asks}
-use Rattle.judge.specs.declared.Read.{Read}
-use Rattle.judge.specs.declared.Wrote.{Wrote}
+use Rattle.kept.specs.declared.Read.{Read}
+use Rattle.kept.specs.declared.Wrote.{Wrote}
 use Rattle.judge.specs.Next.{need4, need10, need11, startNow}
 use Rattle.judge.specs.Easy.{asksOf, Asked}
 

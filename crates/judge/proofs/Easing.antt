@@ -19,20 +19,20 @@ use Rattle.records.specs.declared.Record.{Record}
 use Rattle.records.specs.declared.Command.{Command}
 use Rattle.records.specs.Command.{rank, isA, bankIn}
 use Rattle.chip.specs.declared.Chip.{Chip}
-use Rattle.judge.specs.declared.Kept.{Kept}
-use Rattle.judge.specs.declared.Debt.{Debt}
+use Rattle.kept.specs.declared.Kept.{Kept}
+use Rattle.kept.specs.declared.Debt.{Debt}
 use Rattle.judge.specs.declared.Late.{Late}
-use Rattle.judge.specs.declared.Mark.{Mark}
+use Rattle.kept.specs.declared.Mark.{Mark}
 use Rattle.judge.specs.declared.Pick.{Pick}
-use Rattle.judge.specs.declared.Shared.{Shared}
+use Rattle.kept.specs.declared.Shared.{Shared}
 use Rattle.judge.specs.declared.State.{State}
-use Rattle.judge.specs.Marks.{noVerdict, needing}
+use Rattle.kept.specs.Marks.{needing}
 use Rattle.judge.specs.Next.{debtNext, passed, stamped, sharedNext, markedNext}
-use Rattle.judge.specs.Breaks.{orElse}
+use Rattle.kept.specs.Breaks.{orElse}
 use Rattle.judge.specs.Deadlines.{better, soonest, sooner, late24, late25, owing}
 use Rattle.judge.specs.Easy.{Past, Free, Quiet, Clear, until, passedBy}
 use Rattle.judge.specs.Ranges.{farEdge}
-use Rattle.judge.specs.Step.{saysBy, verdictAt}
+use Rattle.judge.specs.Step.{noVerdict, saysBy, verdictAt}
 use Rattle.judge.proofs.Ranging.{both, neither}
 
 -- ── Due edges ───────────────────────────────────────────────────────────────────────────────

@@ -17,15 +17,15 @@ use Rattle.records.specs.Command.{bankIn}
 use Rattle.records.specs.Record.{records, recordAt}
 use Rattle.chip.specs.declared.Chip.{Chip}
 use Rattle.chip.specs.declared.Regs.{Regs}
-use Rattle.judge.specs.declared.Kept.{Kept}
+use Rattle.kept.specs.declared.Kept.{Kept}
+use Rattle.kept.specs.declared.Shared.{Shared}
+use Rattle.kept.specs.Marks.{empty}
+use Rattle.kept.specs.Breaks.{speaksOfAll, barredAt, lowest, rule2}
 use Rattle.judge.specs.declared.Late.{Late}
 use Rattle.judge.specs.declared.Pick.{Pick}
-use Rattle.judge.specs.declared.Shared.{Shared}
 use Rattle.judge.specs.declared.State.{State}
 use Rattle.judge.specs.declared.Turn.{Turn}
-use Rattle.judge.specs.Marks.{empty}
 use Rattle.judge.specs.Next.{Calm, preAll, keptShut, keptNext, due, banksNext, duesNext}
-use Rattle.judge.specs.Breaks.{speaksOfAll, barredAt, lowest, rule2}
 use Rattle.judge.specs.Deadlines.{late24, soonest, next24}
 use Rattle.judge.specs.Step.{turnOf, turnIn, commandIn, ownBank, movedOf, stoppedOf, stepOf, foldOf}
 use Rattle.judge.specs.Ranges.{limit, lastEdge, farEdge, Small, Ranged, Ready, NearBanks}

@@ -8,10 +8,10 @@ use Rattle.records.specs.declared.Command.the-variants.{Mrs}
 use Rattle.records.specs.Command.{bankIn}
 use Rattle.chip.specs.declared.Chip.{Chip}
 use Rattle.chip.specs.declared.Regs.{Regs}
-use Rattle.judge.specs.declared.Mark.{Mark}
-use Rattle.judge.specs.declared.Rests.{Rests}
-use Rattle.judge.specs.declared.Written.{Written}
-use Rattle.judge.specs.declared.Shared.{Shared}
+use Rattle.kept.specs.declared.Mark.{Mark}
+use Rattle.kept.specs.declared.Rests.{Rests}
+use Rattle.kept.specs.declared.Written.{Written}
+use Rattle.kept.specs.declared.Shared.{Shared}
 use Rattle.judge.specs.Next.{mark, resetsNow, regsSet, writtenSet, markedNext, actsNext, restsNext, regsNext, writtenNext, readNext, wroteNext, shutNext}
 
 pub mrs-after :

@@ -16,15 +16,14 @@ use Rattle.records.specs.Command.{rank, isA, bankIn}
 use Rattle.records.specs.declared.Command.the-variants.{Ref, Sre, Srx}
 use Rattle.chip.specs.declared.Chip.{Chip}
 use Rattle.judge.specs.declared.Asks.{Asks}
-use Rattle.judge.specs.declared.Debt.{Debt}
-use Rattle.judge.specs.declared.Kept.{Kept}
-use Rattle.judge.specs.declared.Shared.{Shared}
+use Rattle.kept.specs.declared.Debt.{Debt}
+use Rattle.kept.specs.declared.Kept.{Kept}
+use Rattle.kept.specs.declared.Shared.{Shared}
 use Rattle.judge.specs.declared.State.{State}
-use Rattle.judge.specs.Marks.{noVerdict}
 use Rattle.judge.specs.Next.{passed, preAll, keptNext, due, debtNext, regsNext, stamped, markedNext, sharedNext}
 use Rattle.judge.specs.Deadlines.{late25, next24}
 use Rattle.judge.specs.Easy.{Asked, Free, Quiet, Clear, until, rankIf, passedBy, passedAll, holding}
-use Rattle.judge.specs.Step.{turnOf, turnIn, commandIn, ownBank, stepOf}
+use Rattle.judge.specs.Step.{noVerdict, turnOf, turnIn, commandIn, ownBank, stepOf}
 use Rattle.judge.proofs.Easing.{soonest-none, says-nothing}
 use Rattle.judge.proofs.Finding.{breaksOf}
 use Rattle.judge.proofs.Folds.{Folding, moves-one}

@@ -19,19 +19,19 @@ use Rattle.records.specs.Record.{records, recordAt}
 use Rattle.chip.specs.declared.Chip.{Chip}
 use Rattle.chip.specs.declared.Regs.{Regs}
 use Rattle.judge.specs.declared.Asks.{Asks}
-use Rattle.judge.specs.declared.Debt.{Debt}
-use Rattle.judge.specs.declared.Kept.{Kept}
-use Rattle.judge.specs.declared.Rests.{Rests}
-use Rattle.judge.specs.declared.Shared.{Shared}
+use Rattle.kept.specs.declared.Debt.{Debt}
+use Rattle.kept.specs.declared.Kept.{Kept}
+use Rattle.kept.specs.declared.Rests.{Rests}
+use Rattle.kept.specs.declared.Shared.{Shared}
 use Rattle.judge.specs.declared.State.{State}
-use Rattle.judge.specs.Marks.{empty}
+use Rattle.kept.specs.Marks.{empty}
 use Rattle.judge.specs.Next.{mark, passed, preAll, keptShut, keptNext, startNow, due, debtNext, regsNext, restsNext, stamped, actsNext, writtenNext, readNext, wroteNext, shutNext, markedNext}
 use Rattle.judge.specs.Easy.{Asked, Unhindered, Free, Quiet, Clear, until, rankIf, passedBy, passedAll, holding}
 use Rattle.judge.specs.Ranges.{farEdge, Ready}
 use Rattle.judge.specs.Step.{stoppedOf, stepOf, foldOf}
 use Rattle.judge.proofs.Ranging.{both}
 use Rattle.judge.proofs.Easing.{clear-on, clear-broken, clear-never}
-use Rattle.judge.specs.Fine.{fineAct, fineRd, fineWr, finePre, fineRest}
+use Rattle.kept.specs.Fine.{fineAct, fineRd, fineWr, finePre, fineRest}
 use Rattle.judge.proofs.Finding.{breaksOf, ranked, of-rank, act-fine, rd-fine, wr-fine, pre-fine, nop-fine, des-fine, low-fine}
 use Rattle.judge.proofs.Folds.{Folding, fold-start, fold-end, fold-more, near-edges, was-broken}
 use Rattle.judge.proofs.Running.{still, short, easy-step}

@@ -18,19 +18,19 @@ use Rattle.records.specs.Record.{records}
 use Rattle.chip.specs.declared.Chip.{Chip}
 use Rattle.chip.specs.declared.Regs.{Regs}
 use Rattle.chip.specs.Chip.{chipOf}
-use Rattle.judge.specs.declared.Kept.{Kept}
-use Rattle.judge.specs.declared.Shared.{Shared}
-use Rattle.judge.specs.declared.Debt.{Debt}
-use Rattle.judge.specs.declared.Written.{Written}
+use Rattle.kept.specs.declared.Kept.{Kept}
+use Rattle.kept.specs.declared.Shared.{Shared}
+use Rattle.kept.specs.declared.Debt.{Debt}
+use Rattle.kept.specs.declared.Written.{Written}
+use Rattle.kept.specs.Marks.{none, empty}
+use Rattle.kept.specs.Breaks.{statusOf}
 use Rattle.judge.specs.declared.State.{State}
 use Rattle.judge.specs.declared.Opened.{Opened}
 use Rattle.judge.specs.declared.Taken.{Taken}
 use Rattle.judge.specs.declared.Closed.{Closed}
 use Rattle.judge.specs.declared.Register.{Register}
-use Rattle.judge.specs.Marks.{none, empty, noVerdict}
-use Rattle.judge.specs.Breaks.{statusOf}
 use Rattle.judge.specs.Deadlines.{why, nextLate}
-use Rattle.judge.specs.Step.{verdictAt, isClean, foldOf, cleanAt, soFar}
+use Rattle.judge.specs.Step.{noVerdict, verdictAt, isClean, foldOf, cleanAt, soFar}
 use Rattle.judge.specs.Ranges.{limit, lastEdge, inRange}
 
 -- ── Opening ─────────────────────────────────────────────────────────────────────────────────

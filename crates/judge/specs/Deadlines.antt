@@ -9,13 +9,13 @@ use lib.ListN.{getD}
 use Rattle.answers.specs.declared.Break.{Break}
 use Rattle.answers.specs.declared.Break.the-variants.{Fine, Broken}
 use Rattle.chip.specs.declared.Chip.{Chip}
-use Rattle.judge.specs.declared.Kept.{Kept}
-use Rattle.judge.specs.declared.Debt.{Debt}
+use Rattle.kept.specs.declared.Kept.{Kept}
+use Rattle.kept.specs.declared.Debt.{Debt}
+use Rattle.kept.specs.declared.Shared.{Shared}
+use Rattle.kept.specs.Marks.{empty}
 use Rattle.judge.specs.declared.Pick.{Pick}
 use Rattle.judge.specs.declared.Late.{Late}
-use Rattle.judge.specs.declared.Shared.{Shared}
 use Rattle.judge.specs.declared.State.{State}
-use Rattle.judge.specs.Marks.{empty}
 
 -- of two picks the bank whose due edge lies after lo and sooner
 unfoldable pub better : (lo d b : ℕ) → Pick → Pick

@@ -13,14 +13,14 @@ use Rattle.records.specs.Command.{rank}
 use Rattle.chip.specs.declared.Chip.{Chip}
 use Rattle.chip.specs.declared.Regs.{Regs}
 use Rattle.chip.specs.Latencies.{alOf, clOf, cwlOf, wrOf, hOf, bOf}
-use Rattle.judge.specs.declared.Debt.{Debt}
-use Rattle.judge.specs.declared.Mark.{Mark}
+use Rattle.kept.specs.declared.Debt.{Debt}
+use Rattle.kept.specs.declared.Mark.{Mark}
 use Rattle.judge.specs.declared.Asks.{Asks}
-use Rattle.judge.specs.declared.Shared.{Shared}
+use Rattle.kept.specs.declared.Shared.{Shared}
 use Rattle.judge.specs.declared.State.{State}
-use Rattle.judge.specs.Marks.{needing}
+use Rattle.kept.specs.Marks.{needing}
 use Rattle.judge.specs.Next.{need4, need10, need11, passed}
-use Rattle.judge.specs.Fine.{met}
+use Rattle.kept.specs.Fine.{met}
 use Rattle.judge.specs.Ranges.{farEdge}
 
 -- by the registers in force; long and short: of a read with A12 and without

@@ -1,8 +1,5 @@
-pub mod Marks
 pub mod Next
-pub mod Fine
 pub mod Easy
-pub mod Breaks
 pub mod Deadlines
 pub mod Step
 pub mod Ranges

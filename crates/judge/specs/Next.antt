@@ -14,15 +14,15 @@ use Rattle.registers.specs.Codes.{resets}
 use Rattle.chip.specs.declared.Chip.{Chip}
 use Rattle.chip.specs.declared.Regs.{Regs}
 use Rattle.chip.specs.Latencies.{alOf, clOf, cwlOf, wrOf, hOf, bOf}
-use Rattle.judge.specs.declared.Mark.{Mark}
-use Rattle.judge.specs.declared.Kept.{Kept}
-use Rattle.judge.specs.declared.Read.{Read}
-use Rattle.judge.specs.declared.Wrote.{Wrote}
-use Rattle.judge.specs.declared.Written.{Written}
-use Rattle.judge.specs.declared.Rests.{Rests}
-use Rattle.judge.specs.declared.Debt.{Debt}
-use Rattle.judge.specs.declared.Shared.{Shared}
-use Rattle.judge.specs.Marks.{none, empty}
+use Rattle.kept.specs.declared.Mark.{Mark}
+use Rattle.kept.specs.declared.Kept.{Kept}
+use Rattle.kept.specs.declared.Read.{Read}
+use Rattle.kept.specs.declared.Wrote.{Wrote}
+use Rattle.kept.specs.declared.Written.{Written}
+use Rattle.kept.specs.declared.Rests.{Rests}
+use Rattle.kept.specs.declared.Debt.{Debt}
+use Rattle.kept.specs.declared.Shared.{Shared}
+use Rattle.kept.specs.Marks.{none, empty}
 
 abbrev pub mark : (e n need : ℕ) → Mark
 mark e n need = record { at = e; num = n; need = need }

@@ -8,9 +8,9 @@ use lib.Dec.{leb, ltb}
 use lib.ListN.{getD, length}
 use Rattle.header.specs.Counts.{tREFI}
 use Rattle.chip.specs.declared.Chip.{Chip}
-use Rattle.judge.specs.declared.Kept.{Kept}
+use Rattle.kept.specs.declared.Kept.{Kept}
+use Rattle.kept.specs.Marks.{empty}
 use Rattle.judge.specs.declared.State.{State}
-use Rattle.judge.specs.Marks.{empty}
 
 -- at most 1,048,576 records, and so at most 2^44 edges
 abbrev pub limit : ℕ

@@ -12,15 +12,19 @@ use Rattle.records.specs.declared.Record.{Record}
 use Rattle.records.specs.declared.Command.{Command}
 use Rattle.records.specs.Command.{commandOf, bankIn}
 use Rattle.chip.specs.declared.Chip.{Chip}
-use Rattle.judge.specs.declared.Kept.{Kept}
+use Rattle.kept.specs.declared.Kept.{Kept}
+use Rattle.kept.specs.declared.Shared.{Shared}
+use Rattle.kept.specs.Marks.{empty}
+use Rattle.kept.specs.Breaks.{orElse, joined, rule2, rule3, spacings}
 use Rattle.judge.specs.declared.Late.{Late}
-use Rattle.judge.specs.declared.Shared.{Shared}
 use Rattle.judge.specs.declared.State.{State}
 use Rattle.judge.specs.declared.Turn.{Turn}
-use Rattle.judge.specs.Marks.{empty, noVerdict}
 use Rattle.judge.specs.Next.{banksNext, duesNext, sharedNext}
-use Rattle.judge.specs.Breaks.{orElse, joined, rule2, rule3, spacings}
 use Rattle.judge.specs.Deadlines.{why, sooner, late25, next24, owing}
+
+-- nothing is broken yet
+abbrev pub noVerdict : Verdict
+noVerdict = record { outcome = 0; rule = 0; number = 0; partner = 0; edge = 0; needed = 0; found = 0 }
 
 abbrev pub brokenAt : (edge num rule partner needed found : ℕ) → Verdict
 brokenAt e n k p m f = record { outcome = 1; rule = k; number = n; partner = p; edge = e; needed = m; found = f }

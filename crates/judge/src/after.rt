@@ -1,17 +1,17 @@
 // What all banks share, after a record.
 use crate::Asks;
-use crate::Debt;
-use crate::Mark;
-use crate::Read;
-use crate::Shared;
-use crate::Written;
-use crate::Wrote;
 use crate::easy::asks_of;
 use crate::needs::rd_start;
 use crate::needs::wr_start;
-use crate::spaced::since;
 use chip::Chip;
 use chip::Regs;
+use kept::Debt;
+use kept::Mark;
+use kept::Read;
+use kept::Shared;
+use kept::Written;
+use kept::Wrote;
+use kept::since;
 use records::Command;
 use records::Record;
 ghost use mathlib.Core.Path.{_≡_};

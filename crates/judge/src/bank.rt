@@ -1,44 +1,21 @@
-// One bank: its status, its due edge under rule 24, and what a record makes of it.
+// One bank: its due edge under rule 24, and what a record makes of it.
 use crate::Asks;
-use crate::Kept;
-use crate::Mark;
 use crate::easy::asks_of;
 use crate::needs::rd_start;
 use crate::needs::wide;
 use crate::needs::wr_start;
-use answers::Bank;
 use chip::Chip;
 use chip::Regs;
+use kept::Kept;
+use kept::Mark;
 use records::Command;
 use records::Record;
 ghost use mathlib.Core.Path.{_≡_};
 ghost use Prim.Native.Nat.{_≤_};
 ghost use Rattle.records.specs.declared.Command.the-variants.{Act, Rd, Wr};
 ghost use Rattle.judge.specs.Next as next;
-ghost use Rattle.judge.specs.Breaks.{statusOf};
 ghost use Rattle.judge.specs.Easy.{Asked};
 ghost use Rattle.judge.specs.Ranges.{Small, farEdge};
-
-// The bank at an edge after the latest record.
-pub(crate) fn status(k: Kept, t: u64) -> Bank
-    ensures { λ r. ⌜ r ≡ statusOf k t ⌝ }
-{
-    if k.shut.num < k.acted.num {
-        return Bank::Open {
-            at: k.acted.at,
-            num: k.acted.num,
-            row: k.row,
-        };
-    }
-    if k.shut.at <= t {
-        return Bank::Idle;
-    }
-    Bank::Closing {
-        at: k.acted.at,
-        num: k.acted.num,
-        row: k.row,
-    }
-}
 
 // The edge at which the bank breaks rule 24, or 0.
 pub(crate) fn due(chip: Chip, k: Kept) -> u64

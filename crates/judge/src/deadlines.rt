@@ -1,9 +1,9 @@
 // Rules 24 and 25 over a gap, whatever its length.
-use crate::Debt;
 use crate::Late;
 use crate::Pick;
-use crate::spaced::since;
 use answers::Break;
+use kept::Debt;
+use kept::since;
 ghost use mathlib.Core.Path.{_≡_};
 ghost use Prim.Native.Nat.{_+_, _≤_, _<_};
 ghost use Rattle.judge.specs.Deadlines as deadlines;

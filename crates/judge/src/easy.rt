@@ -1,8 +1,5 @@
 // What the loop works out before it needs it: once for a section, and again after each record that is not one of the frequent ones.
 use crate::Asks;
-use crate::Debt;
-use crate::Mark;
-use crate::Shared;
 use crate::after::awake;
 use crate::deadlines::soonest;
 use crate::needs::most_of;
@@ -12,10 +9,13 @@ use crate::needs::need11;
 use crate::needs::need13;
 use crate::needs::need14;
 use crate::needs::need19;
-use crate::spaced::needing;
-use crate::spaced::since;
 use chip::Chip;
 use chip::Regs;
+use kept::Debt;
+use kept::Mark;
+use kept::Shared;
+use kept::needing;
+use kept::since;
 use records::Command;
 use records::Record;
 ghost use mathlib.Core.Path.{_≡_};

@@ -1,8 +1,8 @@
 // The clocks that a record needs, by the registers in force at it, and the start of an auto precharge.
 use crate::Asks;
-use crate::spaced::since;
 use chip::Chip;
 use chip::Regs;
+use kept::since;
 ghost use mathlib.Core.Path.{_≡_};
 ghost use Prim.Native.Nat.{_+_, _-_, _≤_, max};
 ghost use Rattle.records.specs.declared.Command.the-variants.{Rd, Wr};

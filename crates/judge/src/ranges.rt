@@ -1,6 +1,6 @@
 // Check 17: the ranges of a state that is handed in.
-use crate::Kept;
 use crate::State;
+use kept::Kept;
 ghost use mathlib.Core.Path.{_≡_};
 ghost use Rattle.judge.specs.Ranges as ranges;
 

@@ -1,20 +1,20 @@
 // What is said of the gap before a record and of its edge.
-use crate::Kept;
 use crate::Late;
-use crate::Shared;
 use crate::Turn;
 use crate::after::shared_next;
-use crate::breaks::joined;
-use crate::breaks::or_else;
-use crate::breaks::rule3;
 use crate::deadlines::late25;
 use crate::deadlines::owing;
 use crate::deadlines::sooner;
 use crate::deadlines::why;
-use crate::spacings::spacings;
 use answers::Break;
 use answers::Verdict;
 use chip::Chip;
+use kept::Kept;
+use kept::Shared;
+use kept::joined;
+use kept::or_else;
+use kept::rule3;
+use kept::spacings;
 use records::Command;
 use records::Record;
 ghost use mathlib.Core.Path.{_≡_};
@@ -118,7 +118,7 @@ fn broken_at(e: u64, n: u64, rule: u64, partner: u64, needed: u64, found: u64) -
 }
 
 pub(crate) fn none() -> Verdict
-    ensures { λ r. ⌜ r ≡ noVerdict ⌝ }
+    ensures { λ r. ⌜ r ≡ step.noVerdict ⌝ }
 {
     clean_at(0, 0)
 }
@@ -136,5 +136,3 @@ pub(crate) fn clean_at(count: u64, end: u64) -> Verdict
         found: 0,
     }
 }
-
-ghost use Rattle.judge.specs.Marks.{noVerdict};

@@ -17,11 +17,11 @@ use Rattle.records.specs.declared.Command.{Command}
 use Rattle.records.specs.declared.Command.the-variants.{Mrs, Ref, Act, Wr, Rd, Zq, Sre, Srx}
 use Rattle.records.specs.Command.{a10}
 use Rattle.chip.specs.declared.Chip.{Chip}
-use Rattle.judge.specs.declared.Mark.{Mark}
-use Rattle.judge.specs.declared.Read.{Read}
-use Rattle.judge.specs.declared.Wrote.{Wrote}
-use Rattle.judge.specs.Marks.{empty, needing, as10, as11, as13, as14, as19}
-use Rattle.judge.specs.Breaks as judge
+use Rattle.kept.specs.declared.Mark.{Mark}
+use Rattle.kept.specs.declared.Read.{Read}
+use Rattle.kept.specs.declared.Wrote.{Wrote}
+use Rattle.kept.specs.Marks.{empty, needing, as10, as11, as13, as14, as19}
+use Rattle.kept.specs.Breaks as judge
 use Rattle.rules.specs.Past.{Past, edge, number, command, is, bankOf, on, latest, back, greatest}
 use Rattle.rules.specs.Search.{orElse, Spacing, row}
 use Rattle.rules.specs.Registers.{dllReset}

@@ -12,7 +12,7 @@ use Rattle.answers.specs.declared.Break.the-variants.{Fine}
 use Rattle.records.specs.declared.Command.{Command}
 use Rattle.records.specs.declared.Command.the-variants.{Mrs, Ref, Pre, Act, Wr, Rd, Zq, Nop, Des, Sre, Srx, Low, Bad}
 use Rattle.records.specs.Command.{isA}
-use Rattle.judge.specs.Breaks as judge
+use Rattle.kept.specs.Breaks as judge
 use Rattle.rules.specs.Search.{orElse, lowest}
 use Rattle.rules.specs.Rules.{concerns, barred}
 use Rattle.rules.proofs.Events.{never}

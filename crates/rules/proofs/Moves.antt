@@ -17,10 +17,10 @@ use Rattle.records.specs.declared.Command.{Command}
 use Rattle.records.specs.declared.Command.the-variants.{Mrs, Ref, Pre, Act, Wr, Rd, Zq, Sre, Srx}
 use Rattle.records.specs.Command.{a10}
 use Rattle.chip.specs.declared.Chip.{Chip}
-use Rattle.judge.specs.declared.Kept.{Kept}
-use Rattle.judge.specs.Marks.{empty, none, noVerdict}
+use Rattle.kept.specs.declared.Kept.{Kept}
+use Rattle.kept.specs.Marks.{empty, none}
 use Rattle.judge.specs.Next as judge
-use Rattle.judge.specs.Step.{turnOf, turnIn, movedOf}
+use Rattle.judge.specs.Step.{noVerdict, turnOf, turnIn, movedOf}
 use Rattle.judge.specs.Calls.{freshShared, freshState, startOf}
 use Rattle.rules.specs.Deadlines.{asleep, awakeTo, owedTo}
 use Rattle.rules.specs.Past.{Past, edge, number, command, is, bankOf, addressOf, on, latest, greatest}

@@ -13,10 +13,10 @@ use Rattle.records.specs.declared.Record.{Record}
 use Rattle.records.specs.Record.{fieldsOf, records}
 use Rattle.chip.specs.declared.Chip.{Chip}
 use Rattle.chip.specs.Chip.{chipOf}
-use Rattle.judge.specs.declared.Kept.{Kept}
+use Rattle.kept.specs.declared.Kept.{Kept}
+use Rattle.kept.specs.Marks.{empty}
 use Rattle.judge.specs.declared.Opened.{Opened}
 use Rattle.judge.specs.declared.State.{State}
-use Rattle.judge.specs.Marks.{empty}
 use Rattle.judge.specs.Step.{isClean, turnIn, movedOf, stoppedOf, stepOf, foldOf}
 use Rattle.judge.specs.Ranges.{limit, lastEdge, banksOk, inRange, Small, Ranged}
 use Rattle.judge.specs.Calls.{startOf, freshState, freshShared, openOf, hasZero, refuse, take, sectionOf}

@@ -7,15 +7,16 @@ use mathlib.Core.List.{List, [], _∷_}
 use Rattle.laws.specs.Eight.{table}
 use Rattle.records.specs.declared.Command.the-variants.{Mrs, Ref, Act, Wr, Rd, Zq, Sre, Srx}
 use Rattle.chip.specs.declared.Chip.{Chip}
-use Rattle.judge.specs.declared.Mark.{Mark}
-use Rattle.judge.specs.declared.Kept.{Kept}
-use Rattle.judge.specs.declared.Read.{Read}
-use Rattle.judge.specs.declared.Wrote.{Wrote}
-use Rattle.judge.specs.declared.Written.{Written}
-use Rattle.judge.specs.declared.Rests.{Rests}
-use Rattle.judge.specs.declared.Shared.{Shared}
+use Rattle.kept.specs.declared.Mark.{Mark}
+use Rattle.kept.specs.declared.Kept.{Kept}
+use Rattle.kept.specs.declared.Read.{Read}
+use Rattle.kept.specs.declared.Wrote.{Wrote}
+use Rattle.kept.specs.declared.Written.{Written}
+use Rattle.kept.specs.declared.Rests.{Rests}
+use Rattle.kept.specs.declared.Shared.{Shared}
+use Rattle.kept.specs.Marks.{none}
 use Rattle.judge.specs.declared.State.{State}
-use Rattle.judge.specs.Marks.{none, noVerdict}
+use Rattle.judge.specs.Step.{noVerdict}
 use Rattle.judge.specs.Next as judge
 use Rattle.rules.specs.Past.{Past, edge, number, cke, is, addressOf, on, latest, back, has, greatest}
 use Rattle.rules.specs.Registers.{mrsTo, dllReset, regs}

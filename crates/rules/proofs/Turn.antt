@@ -16,13 +16,13 @@ use Rattle.answers.specs.declared.Verdict.{Verdict}
 use Rattle.records.specs.declared.Record.{Record}
 use Rattle.records.specs.declared.Command.the-variants.{Ref}
 use Rattle.chip.specs.declared.Chip.{Chip}
+use Rattle.kept.specs.declared.Shared.{Shared}
+use Rattle.kept.specs.Marks.{empty}
+use Rattle.kept.specs.Breaks as breaks
 use Rattle.judge.specs.declared.Late.{Late}
-use Rattle.judge.specs.declared.Shared.{Shared}
 use Rattle.judge.specs.declared.State.{State}
-use Rattle.judge.specs.Marks.{empty, noVerdict}
-use Rattle.judge.specs.Breaks as breaks
 use Rattle.judge.specs.Deadlines.{why, sooner, next24, next25, nextLate, owing}
-use Rattle.judge.specs.Step.{say, lateAt, saysBy, turnOf, turnIn}
+use Rattle.judge.specs.Step.{noVerdict, say, lateAt, saysBy, turnOf, turnIn}
 use Rattle.rules.specs.Past.{Past, edge, number, command, is, bankOf, latest}
 use Rattle.rules.specs.Search.{orElse}
 use Rattle.rules.specs.Rules.{checks, breakAt}

@@ -12,9 +12,8 @@ use Rattle.answers.specs.declared.Verdict.{Verdict}
 use Rattle.records.specs.declared.Record.{Record}
 use Rattle.chip.specs.declared.Chip.{Chip}
 use Rattle.judge.specs.declared.State.{State}
-use Rattle.judge.specs.Marks.{noVerdict}
 use Rattle.judge.specs.Next.{due}
-use Rattle.judge.specs.Step.{isClean, turnIn, movedOf, stoppedOf, stepOf, foldOf, cleanAt, soFar}
+use Rattle.judge.specs.Step.{noVerdict, isClean, turnIn, movedOf, stoppedOf, stepOf, foldOf, cleanAt, soFar}
 use Rattle.judge.specs.Calls.{startOf}
 use Rattle.rules.specs.Past.{Past, edge, number, upTo}
 use Rattle.rules.specs.Verdict.{Outcome, clean, stop, verdictTo, shown, verdictSoFar, rest, Apart, Steps}

@@ -13,10 +13,10 @@ use Rattle.answers.specs.declared.Break.the-variants.{Fine, Broken}
 use Rattle.records.specs.declared.Record.{Record}
 use Rattle.records.specs.declared.Command.the-variants.{Ref, Srx}
 use Rattle.chip.specs.declared.Chip.{Chip}
-use Rattle.judge.specs.declared.Mark.{Mark}
-use Rattle.judge.specs.Marks.{needing, as10, as11, as13, as14, as19}
-use Rattle.judge.specs.Marks as marks
-use Rattle.judge.specs.Breaks as judge
+use Rattle.kept.specs.declared.Mark.{Mark}
+use Rattle.kept.specs.Marks.{needing, as10, as11, as13, as14, as19}
+use Rattle.kept.specs.Marks as marks
+use Rattle.kept.specs.Breaks as judge
 use Rattle.rules.specs.Past.{Past, edge, number, is, on, latest, back}
 use Rattle.rules.specs.Search.{orElse, lowest, short, Spacing, row}
 use Rattle.rules.specs.Rules.{r4, r6, r7, r9, r10, r11, r12r, r12w, r13, r14, r15, r16, r17, r18, r19, r20, r21, r22, rule5, rule8, rule23, spaced, since, fourth}

@@ -14,7 +14,7 @@ use Rattle.chip.specs.declared.Chip.{Chip}
 use Rattle.chip.specs.Chip.{chipOf}
 use Rattle.records.specs.declared.Record.{Record}
 use Rattle.records.specs.Record.{records}
-use Rattle.judge.specs.declared.Shared.{Shared}
+use Rattle.kept.specs.declared.Shared.{Shared}
 use Rattle.judge.specs.declared.State.{State}
 use Rattle.judge.specs.declared.Taken.{Taken}
 use Rattle.header.specs.declared.Parsed.{Parsed}

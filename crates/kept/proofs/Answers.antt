@@ -1,0 +1,64 @@
+-- One answer for each public contract.
+-- Assumes nothing.
+use Prim.Native.Nat.{ℕ, _-_}
+use mathlib.Core.Bool.{Bool}
+use mathlib.Core.List.{List}
+use mathlib.Core.Path.{_≡_}
+use Rattle.laws.proofs.Unique.{Unique, one-answer}
+use Rattle.answers.specs.declared.Bank.{Bank}
+use Rattle.answers.specs.declared.Break.{Break}
+use Rattle.records.specs.declared.Command.{Command}
+use Rattle.records.specs.declared.Record.{Record}
+use Rattle.chip.specs.declared.Chip.{Chip}
+use Rattle.kept.specs.declared.Kept.{Kept}
+use Rattle.kept.specs.declared.Shared.{Shared}
+use Rattle.kept.specs.declared.Written.{Written}
+use Rattle.kept.specs.declared.Mark.{Mark}
+use Rattle.kept.specs.Marks.{needing}
+use Rattle.kept.specs.Fine.{fineAct, fineRd, fineWr, finePre, fineRest}
+use Rattle.kept.specs.Breaks.{orElse, statusOf, wants, barredBy, barredAt, lowest, speaksOfAll, rule3, spacings, joined}
+
+pub since-unique : (e at : ℕ) → Unique (λ (r : ℕ). r ≡ e - at)
+since-unique e at = one-answer (e - at)
+
+pub status-unique : (k : Kept) (t : ℕ) → Unique (λ (r : Bank). r ≡ statusOf k t)
+status-unique k t = one-answer (statusOf k t)
+
+pub barred-unique : (c : Command) (k : Kept) (e : ℕ) → Unique (λ (x : Break). x ≡ barredBy (wants c) (statusOf k e))
+barred-unique c k e = one-answer (barredBy (wants c) (statusOf k e))
+
+pub first-barred-unique : (c : Command) (ks : List Kept) (e : ℕ) → Unique (λ (x : Break). x ≡ lowest (barredAt c ks e) 8)
+first-barred-unique c ks e = one-answer (lowest (barredAt c ks e) 8)
+
+pub speaks-of-all-unique : (c : Command) (r : Record) → Unique (λ (x : Bool). x ≡ speaksOfAll c r)
+speaks-of-all-unique c r = one-answer (speaksOfAll c r)
+
+pub rule3-unique : (C : Chip) (c : Command) (r : Record) (w : Written) → Unique (λ (x : Break). x ≡ rule3 C c r w)
+rule3-unique C c r w = one-answer (rule3 C c r w)
+
+pub spacings-unique : (C : Chip) (c : Command) (r : Record) (e : ℕ) (k : Kept) (s : Shared) → Unique (λ (x : Break). x ≡ spacings C c r e k s)
+spacings-unique C c r e k s = one-answer (spacings C c r e k s)
+
+pub or-else-unique : (a b : Break) → Unique (λ (x : Break). x ≡ orElse a b)
+or-else-unique a b = one-answer (orElse a b)
+
+pub joined-unique : (c : Command) (two three spacing : Break) → Unique (λ (x : Break). x ≡ joined c two three spacing)
+joined-unique c two three spacing = one-answer (joined c two three spacing)
+
+pub needing-unique : (n : ℕ) (m : Mark) → Unique (λ (x : Mark). x ≡ needing n m)
+needing-unique n m = one-answer (needing n m)
+
+pub fine-act-unique : (C : Chip) (q e : ℕ) (k : Kept) (s : Shared) → Unique (λ (x : Bool). x ≡ fineAct C q e k s)
+fine-act-unique C q e k s = one-answer (fineAct C q e k s)
+
+pub fine-rd-unique : (q e : ℕ) (k : Kept) (s : Shared) → Unique (λ (x : Bool). x ≡ fineRd q e k s)
+fine-rd-unique q e k s = one-answer (fineRd q e k s)
+
+pub fine-wr-unique : (q e : ℕ) (k : Kept) (s : Shared) → Unique (λ (x : Bool). x ≡ fineWr q e k s)
+fine-wr-unique q e k s = one-answer (fineWr q e k s)
+
+pub fine-pre-unique : (C : Chip) (q a e : ℕ) (k : Kept) → Unique (λ (x : Bool). x ≡ finePre C q a e k)
+fine-pre-unique C q a e k = one-answer (finePre C q a e k)
+
+pub fine-rest-unique : (q : ℕ) → Unique (λ (x : Bool). x ≡ fineRest q)
+fine-rest-unique q = one-answer (fineRest q)

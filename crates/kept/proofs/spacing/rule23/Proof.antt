@@ -1,0 +1,16 @@
+-- An SRX later than the latest REF.
+-- Assumes nothing.
+use borrow.Author.Needs.{needs}
+use borrow.Author.Tests.{lt-ltb, le-ltb, le-leb, lt-leb, eq-eqb, ne-eqb}
+use mathlib.Core.Path.{refl, sym, ap, _∙_}
+use Rattle.kept.proofs.spacing.rule23.Statement.{statement}
+use Rattle.kept.proofs.spacing.rule23.Tie as tie
+
+returns : tie.Need-returns
+returns c = simp (lt-ltb _ _ (c .if1 .taken), lt-leb _ _ (c .if1 .taken))
+
+returns-2 : tie.Need-returns-2
+returns-2 c = simp (le-leb _ _ (c .if1 .left), le-ltb _ _ (c .if1 .left))
+
+pub rule23-spec : {M : Type 1} → statement M
+rule23-spec = tie.close (tie.spec returns returns-2)

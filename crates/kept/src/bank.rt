@@ -1,0 +1,26 @@
+// What a bank is at an edge: idle, open or closing.
+use crate::Kept;
+use answers::Bank;
+ghost use mathlib.Core.Path.{_≡_};
+ghost use Rattle.kept.specs.Breaks.{statusOf};
+
+// The bank at an edge after the latest record.
+pub fn status(k: Kept, t: u64) -> Bank
+    ensures { λ r. ⌜ r ≡ statusOf k t ⌝ }
+{
+    if k.shut.num < k.acted.num {
+        return Bank::Open {
+            at: k.acted.at,
+            num: k.acted.num,
+            row: k.row,
+        };
+    }
+    if k.shut.at <= t {
+        return Bank::Idle;
+    }
+    Bank::Closing {
+        at: k.acted.at,
+        num: k.acted.num,
+        row: k.row,
+    }
+}

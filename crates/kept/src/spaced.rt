@@ -1,0 +1,47 @@
+// The check of one least-spacing rule against one mark.
+use crate::Mark;
+use answers::Break;
+ghost use mathlib.Core.Path.{_≡_};
+ghost use Prim.Native.Nat.{_-_};
+ghost use Rattle.kept.specs.Marks as marks;
+
+// The edges from one edge to another; 0 where the first is not before.
+pub fn since(e: u64, at: u64) -> u64
+    ensures { λ r. ⌜ r ≡ e - at ⌝ }
+{
+    if at <= e { e - at } else { 0 }
+}
+
+// Rule k at edge e: the break, or what else is broken.
+pub(crate) fn spaced(k: u64, e: u64, m: Mark, otherwise: Break) -> Break
+    ensures { λ r. ⌜ r ≡ marks.spaced k e m otherwise ⌝ }
+{
+    let found = since(e, m.at);
+    if found < m.need {
+        return Break::Broken {
+            rule: k,
+            partner: m.num,
+            needed: m.need,
+            found: found,
+        };
+    }
+    otherwise
+}
+
+// The same record under another need; a mark of no record stays one.
+pub fn needing(need: u64, m: Mark) -> Mark
+    ensures { λ r. ⌜ r ≡ marks.needing need m ⌝ }
+{
+    if m.num == 0 {
+        return Mark {
+            at: m.at,
+            num: m.num,
+            need: 0,
+        };
+    }
+    Mark {
+        at: m.at,
+        num: m.num,
+        need: need,
+    }
+}
