@@ -31,3 +31,4 @@ pub mod Section
 pub mod Sections
 pub mod Cuts
 pub mod Recordings
+pub mod Fourth
