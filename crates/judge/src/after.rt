@@ -30,7 +30,7 @@ pub(crate) fn shared_next(
     c: Command,
     r: Record,
     e: u64,
-    n: u64,
+    n: u32,
     a: u64,
     s: Shared,
 ) -> Shared
@@ -48,7 +48,7 @@ pub(crate) fn shared_next(
     marked_next(chip, c, r, e, n, a, x)
 }
 
-fn marked_next(chip: Chip, c: Command, r: Record, e: u64, n: u64, a: u64, s: Shared) -> Shared
+fn marked_next(chip: Chip, c: Command, r: Record, e: u64, n: u32, a: u64, s: Shared) -> Shared
     requires { ⌜ Small chip ⌝ }
     requires { ⌜ e ≤ farEdge ⌝ }
     requires { ⌜ a ≤ farEdge ⌝ }
@@ -107,28 +107,28 @@ fn one(yes: bool) -> u64
 }
 
 // Whole intervals, and what is left of one; nearly always fewer edges than an interval pass, and nothing is divided.
-pub(crate) fn whole(total: u64, interval: u64) -> u64
+pub(crate) fn whole(total: u64, interval: u32) -> u64
     requires { ⌜ 1 ≤ interval ⌝ }
     ensures { λ r. ⌜ r ≡ total / interval ⌝ }
     ensures { λ r. ⌜ r ≤ total ⌝ }
 {
-    if total < interval {
+    if total < interval as u64 {
         return 0;
     }
-    total / interval
+    total / interval as u64
 }
 
-fn rest(total: u64, interval: u64) -> u64
+fn rest(total: u64, interval: u32) -> u64
     requires { ⌜ 1 ≤ interval ⌝ }
     ensures { λ r. ⌜ r ≡ total % interval ⌝ }
 {
-    if total < interval {
+    if total < interval as u64 {
         return total;
     }
-    total % interval
+    total % interval as u64
 }
 
-fn mark(e: u64, n: u64, need: u64) -> Mark
+fn mark(e: u64, n: u32, need: u32) -> Mark
     ensures { λ r. ⌜ r ≡ next.mark e n need ⌝ }
 {
     Mark {
@@ -138,7 +138,7 @@ fn mark(e: u64, n: u64, need: u64) -> Mark
     }
 }
 
-fn after_act(chip: Chip, r: Record, e: u64, n: u64, a: u64, s: Shared) -> Shared
+fn after_act(chip: Chip, r: Record, e: u64, n: u32, a: u64, s: Shared) -> Shared
     ensures { λ x. ⌜ x ≡ next.markedNext chip Act r e n a s ⌝ }
 {
     let a0 = s.acts[0];
@@ -149,7 +149,7 @@ fn after_act(chip: Chip, r: Record, e: u64, n: u64, a: u64, s: Shared) -> Shared
     x
 }
 
-fn after_pre(chip: Chip, r: Record, e: u64, n: u64, a: u64, s: Shared) -> Shared
+fn after_pre(chip: Chip, r: Record, e: u64, n: u32, a: u64, s: Shared) -> Shared
     ensures { λ x. ⌜ x ≡ next.markedNext chip Pre r e n a s ⌝ }
 {
     let mut x = s;
@@ -158,7 +158,7 @@ fn after_pre(chip: Chip, r: Record, e: u64, n: u64, a: u64, s: Shared) -> Shared
 }
 
 // The greatest start so far, of equals the later.
-fn later_start(m: Mark, f: u64, n: u64, trp: u64) -> Mark
+fn later_start(m: Mark, f: u64, n: u32, trp: u32) -> Mark
     ensures { λ x. ⌜ x ≡ next.laterStart m f n trp ⌝ }
 {
     if m.at <= f {
@@ -167,7 +167,7 @@ fn later_start(m: Mark, f: u64, n: u64, trp: u64) -> Mark
     m
 }
 
-fn after_rd(chip: Chip, r: Record, e: u64, n: u64, a: u64, s: Shared) -> Shared
+fn after_rd(chip: Chip, r: Record, e: u64, n: u32, a: u64, s: Shared) -> Shared
     requires { ⌜ Small chip ⌝ }
     requires { ⌜ e ≤ farEdge ⌝ }
     requires { ⌜ a ≤ farEdge ⌝ }
@@ -191,7 +191,7 @@ fn after_rd(chip: Chip, r: Record, e: u64, n: u64, a: u64, s: Shared) -> Shared
     x
 }
 
-fn after_wr(chip: Chip, r: Record, e: u64, n: u64, a: u64, s: Shared) -> Shared
+fn after_wr(chip: Chip, r: Record, e: u64, n: u32, a: u64, s: Shared) -> Shared
     requires { ⌜ Small chip ⌝ }
     requires { ⌜ e ≤ farEdge ⌝ }
     ensures { λ x. ⌜ x ≡ next.markedNext chip Wr r e n a s ⌝ }
@@ -213,7 +213,7 @@ fn after_wr(chip: Chip, r: Record, e: u64, n: u64, a: u64, s: Shared) -> Shared
     x
 }
 
-fn after_ref(chip: Chip, r: Record, e: u64, n: u64, a: u64, s: Shared) -> Shared
+fn after_ref(chip: Chip, r: Record, e: u64, n: u32, a: u64, s: Shared) -> Shared
     ensures { λ x. ⌜ x ≡ next.markedNext chip Ref r e n a s ⌝ }
 {
     let mut rests = s.rests;
@@ -224,7 +224,7 @@ fn after_ref(chip: Chip, r: Record, e: u64, n: u64, a: u64, s: Shared) -> Shared
     x
 }
 
-fn after_zq(chip: Chip, r: Record, e: u64, n: u64, a: u64, s: Shared) -> Shared
+fn after_zq(chip: Chip, r: Record, e: u64, n: u32, a: u64, s: Shared) -> Shared
     ensures { λ x. ⌜ x ≡ next.markedNext chip Zq r e n a s ⌝ }
 {
     let mut rests = s.rests;
@@ -241,7 +241,7 @@ fn after_zq(chip: Chip, r: Record, e: u64, n: u64, a: u64, s: Shared) -> Shared
     x
 }
 
-fn after_sre(chip: Chip, r: Record, e: u64, n: u64, a: u64, s: Shared) -> Shared
+fn after_sre(chip: Chip, r: Record, e: u64, n: u32, a: u64, s: Shared) -> Shared
     requires { ⌜ Small chip ⌝ }
     ensures { λ x. ⌜ x ≡ next.markedNext chip Sre r e n a s ⌝ }
 {
@@ -253,7 +253,7 @@ fn after_sre(chip: Chip, r: Record, e: u64, n: u64, a: u64, s: Shared) -> Shared
     x
 }
 
-fn after_srx(chip: Chip, r: Record, e: u64, n: u64, a: u64, s: Shared) -> Shared
+fn after_srx(chip: Chip, r: Record, e: u64, n: u32, a: u64, s: Shared) -> Shared
     ensures { λ x. ⌜ x ≡ next.markedNext chip Srx r e n a s ⌝ }
 {
     let mut rests = s.rests;
@@ -266,7 +266,7 @@ fn after_srx(chip: Chip, r: Record, e: u64, n: u64, a: u64, s: Shared) -> Shared
     x
 }
 
-fn after_mrs(chip: Chip, r: Record, e: u64, n: u64, a: u64, s: Shared) -> Shared
+fn after_mrs(chip: Chip, r: Record, e: u64, n: u32, a: u64, s: Shared) -> Shared
     ensures { λ x. ⌜ x ≡ next.markedNext chip Mrs r e n a s ⌝ }
 {
     let b = r.bank % 8;

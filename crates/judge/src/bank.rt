@@ -3,7 +3,6 @@ use crate::needs::need4;
 use crate::needs::need10;
 use crate::needs::need11;
 use crate::needs::rd_start;
-use crate::needs::wide;
 use crate::needs::wr_start;
 use chip::Chip;
 use chip::Regs;
@@ -23,7 +22,7 @@ pub(crate) fn due(chip: Chip, k: Kept) -> u64
     requires { ⌜ k .acted .at ≤ farEdge ⌝ }
     ensures { λ r. ⌜ r ≡ next.due chip k ⌝ }
 {
-    let last = k.acted.at + chip.most;
+    let last = k.acted.at + chip.most as u64;
     if k.shut.num < k.acted.num {
         return last + 1;
     }
@@ -34,7 +33,7 @@ pub(crate) fn due(chip: Chip, k: Kept) -> u64
 }
 
 // The record's own bank after it.
-pub(crate) fn kept_next(chip: Chip, c: Command, r: Record, e: u64, n: u64, g: Regs, k: Kept) -> Kept
+pub(crate) fn kept_next(chip: Chip, c: Command, r: Record, e: u64, n: u32, g: Regs, k: Kept) -> Kept
     requires { ⌜ Small chip ⌝ }
     requires { ⌜ e ≤ farEdge ⌝ }
     requires { ⌜ k .acted .at ≤ farEdge ⌝ }
@@ -58,14 +57,14 @@ pub(crate) fn kept_next(chip: Chip, c: Command, r: Record, e: u64, n: u64, g: Re
 }
 
 // A bank after a PRE of all.
-pub(crate) fn kept_shut(chip: Chip, e: u64, n: u64, k: Kept) -> Kept
+pub(crate) fn kept_shut(chip: Chip, e: u64, n: u32, k: Kept) -> Kept
     ensures { λ x. ⌜ x ≡ next.keptShut chip e n k ⌝ }
 {
     shut_by(k, e, n, chip.trp)
 }
 
 // The bank with a precharge that starts at edge f.
-fn shut_by(k: Kept, f: u64, n: u64, need: u64) -> Kept
+fn shut_by(k: Kept, f: u64, n: u32, need: u32) -> Kept
     ensures { λ x. ⌜ x ≡ next.shutBy k f n need ⌝ }
 {
     let mut x = k;
@@ -78,11 +77,10 @@ fn shut_by(k: Kept, f: u64, n: u64, need: u64) -> Kept
     x
 }
 
-fn acted(chip: Chip, r: Record, e: u64, n: u64, g: Regs, k: Kept) -> Kept
+fn acted(chip: Chip, r: Record, e: u64, n: u32, g: Regs, k: Kept) -> Kept
     ensures { λ x. ⌜ x ≡ next.keptNext chip Act r e n g k ⌝ }
 {
     let need = need4(chip.trcd, chip::al_of(g));
-    let row = wide(r.a);
     let mut x = k;
     let acted = Mark {
         at: e,
@@ -90,11 +88,11 @@ fn acted(chip: Chip, r: Record, e: u64, n: u64, g: Regs, k: Kept) -> Kept
         need: need,
     };
     x.acted = acted;
-    x.row = row;
+    x.row = r.a;
     x
 }
 
-fn read(chip: Chip, r: Record, e: u64, n: u64, g: Regs, k: Kept) -> Kept
+fn read(chip: Chip, r: Record, e: u64, n: u32, g: Regs, k: Kept) -> Kept
     requires { ⌜ Small chip ⌝ }
     requires { ⌜ e ≤ farEdge ⌝ }
     requires { ⌜ k .acted .at ≤ farEdge ⌝ }
@@ -115,7 +113,7 @@ fn read(chip: Chip, r: Record, e: u64, n: u64, g: Regs, k: Kept) -> Kept
     x
 }
 
-fn written(chip: Chip, r: Record, e: u64, n: u64, g: Regs, k: Kept) -> Kept
+fn written(chip: Chip, r: Record, e: u64, n: u32, g: Regs, k: Kept) -> Kept
     requires { ⌜ Small chip ⌝ }
     requires { ⌜ e ≤ farEdge ⌝ }
     ensures { λ x. ⌜ x ≡ next.keptNext chip Wr r e n g k ⌝ }

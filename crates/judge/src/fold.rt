@@ -98,7 +98,7 @@ pub(crate) fn record_at(bytes: &[u8], at: usize) -> Record
     )
 }
 
-fn shut_all(chip: Chip, e: u64, n: u64, ks: [Kept; 8]) -> [Kept; 8]
+fn shut_all(chip: Chip, e: u64, n: u32, ks: [Kept; 8]) -> [Kept; 8]
     ensures { λ x. ⌜ x ≡ table (λ b. next.keptShut chip e n (getD ks b empty)) ⌝ }
 {
     [

@@ -19,7 +19,7 @@ use kept::Shared;
 pub struct State {
     pub header: Header,
     pub edge: u64,
-    pub count: u64,
+    pub count: u32,
     pub first: Verdict,
     pub banks: [Kept; 8],
     pub dues: [u64; 8],
