@@ -4,21 +4,21 @@ ghost use mathlib.Core.Path.{_≡_};
 ghost use Prim.Native.Nat.{_≤_};
 ghost use Rattle.chip.specs.Latencies.{alOf, clOf, cwlOf, wrOf, hOf, bOf};
 
-pub fn al_of(g: Regs) -> u64
+pub fn al_of(g: Regs) -> u32
     ensures { λ r. ⌜ r ≡ alOf g ⌝ }
     ensures { λ r. ⌜ r ≤ 255 ⌝ }
 {
     wide(registers::al(g.mr0, g.mr1))
 }
 
-pub fn cl_of(g: Regs) -> u64
+pub fn cl_of(g: Regs) -> u32
     ensures { λ r. ⌜ r ≡ clOf g ⌝ }
     ensures { λ r. ⌜ r ≤ 255 ⌝ }
 {
     wide(registers::cl(g.mr0))
 }
 
-pub fn cwl_of(g: Regs) -> u64
+pub fn cwl_of(g: Regs) -> u32
     ensures { λ r. ⌜ r ≡ cwlOf g ⌝ }
     ensures { λ r. ⌜ r ≤ 255 ⌝ }
 {
@@ -26,7 +26,7 @@ pub fn cwl_of(g: Regs) -> u64
 }
 
 // Programmed write recovery.
-pub fn wr_of(g: Regs) -> u64
+pub fn wr_of(g: Regs) -> u32
     ensures { λ r. ⌜ r ≡ wrOf g ⌝ }
     ensures { λ r. ⌜ r ≤ 255 ⌝ }
 {
@@ -34,7 +34,7 @@ pub fn wr_of(g: Regs) -> u64
 }
 
 // h of a write: 4, but 2 where MR0 fixes four; a chop by A12 does not shorten it.
-pub fn h_of(g: Regs) -> u64
+pub fn h_of(g: Regs) -> u32
     ensures { λ r. ⌜ r ≡ hOf g ⌝ }
     ensures { λ r. ⌜ r ≤ 255 ⌝ }
 {
@@ -45,7 +45,7 @@ pub fn h_of(g: Regs) -> u64
 }
 
 // b of a read at an address: 4 for eight words, 2 for four.
-pub fn b_of(g: Regs, a: u16) -> u64
+pub fn b_of(g: Regs, a: u16) -> u32
     ensures { λ r. ⌜ r ≡ bOf g a ⌝ }
     ensures { λ r. ⌜ r ≤ 255 ⌝ }
 {
@@ -62,8 +62,8 @@ pub fn b_of(g: Regs, a: u16) -> u64
     2
 }
 
-fn wide(x: u8) -> u64
+fn wide(x: u8) -> u32
     ensures { λ r. ⌜ r ≡ x ⌝ }
 {
-    x as u64
+    x as u32
 }

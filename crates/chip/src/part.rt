@@ -1,7 +1,9 @@
-// Here `Clocks` become plain numbers.
+// Here `Clocks` become plain numbers, of 32 bits: no count is above 70,000,000.
 use crate::Chip;
 use header::Header;
+use units::Clocks;
 ghost use mathlib.Core.Path.{_≡_};
+ghost use Prim.Native.Nat.{_≤_};
 ghost use Rattle.chip.specs.Chip.{chipOf};
 
 pub fn chip_of(h: Header) -> Chip
@@ -9,22 +11,29 @@ pub fn chip_of(h: Header) -> Chip
 {
     Chip {
         header: h,
-        trcd: h.trcd().clocks,
-        trp: h.trp().clocks,
-        trc: h.trc().clocks,
-        tras: h.tras().clocks,
-        trrd: h.trrd().clocks,
-        tfaw: h.tfaw().clocks,
-        tcke: h.tcke().clocks,
-        trtp: h.trtp().clocks,
-        twtr: h.twtr().clocks,
-        twr: h.twr().clocks,
-        tmod: h.tmod().clocks,
-        trfc: h.trfc().clocks,
-        txs: h.txs().clocks,
-        zqlong: h.zqlong().clocks,
-        zqshort: h.zqshort().clocks,
-        most: h.mostras().clocks,
-        trefi: h.trefi().clocks,
+        trcd: plain(h.trcd()),
+        trp: plain(h.trp()),
+        trc: plain(h.trc()),
+        tras: plain(h.tras()),
+        trrd: plain(h.trrd()),
+        tfaw: plain(h.tfaw()),
+        tcke: plain(h.tcke()),
+        trtp: plain(h.trtp()),
+        twtr: plain(h.twtr()),
+        twr: plain(h.twr()),
+        tmod: plain(h.tmod()),
+        trfc: plain(h.trfc()),
+        txs: plain(h.txs()),
+        zqlong: plain(h.zqlong()),
+        zqshort: plain(h.zqshort()),
+        most: plain(h.mostras()),
+        trefi: plain(h.trefi()),
     }
+}
+
+fn plain(c: Clocks) -> u32
+    requires { ⌜ c .clocks ≤ 70000000 ⌝ }
+    ensures { λ r. ⌜ r ≡ c .clocks ⌝ }
+{
+    c.clocks as u32
 }

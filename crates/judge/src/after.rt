@@ -28,7 +28,7 @@ pub(crate) fn shared_next(
     c: Command,
     r: Record,
     e: u64,
-    n: u64,
+    n: u32,
     a: u64,
     s: Shared,
 ) -> Shared
@@ -46,7 +46,7 @@ pub(crate) fn shared_next(
     marked_next(chip, c, r, e, n, a, x)
 }
 
-fn marked_next(chip: Chip, c: Command, r: Record, e: u64, n: u64, a: u64, s: Shared) -> Shared
+fn marked_next(chip: Chip, c: Command, r: Record, e: u64, n: u32, a: u64, s: Shared) -> Shared
     requires { ⌜ Small chip ⌝ }
     requires { ⌜ e ≤ farEdge ⌝ }
     requires { ⌜ a ≤ farEdge ⌝ }
@@ -105,28 +105,28 @@ fn one(yes: bool) -> u64
 }
 
 // Whole intervals, and what is left of one; nearly always fewer edges than an interval pass, and nothing is divided.
-pub(crate) fn whole(total: u64, interval: u64) -> u64
+pub(crate) fn whole(total: u64, interval: u32) -> u64
     requires { ⌜ 1 ≤ interval ⌝ }
     ensures { λ r. ⌜ r ≡ total / interval ⌝ }
     ensures { λ r. ⌜ r ≤ total ⌝ }
 {
-    if total < interval {
+    if total < interval as u64 {
         return 0;
     }
-    total / interval
+    total / interval as u64
 }
 
-fn rest(total: u64, interval: u64) -> u64
+fn rest(total: u64, interval: u32) -> u64
     requires { ⌜ 1 ≤ interval ⌝ }
     ensures { λ r. ⌜ r ≡ total % interval ⌝ }
 {
-    if total < interval {
+    if total < interval as u64 {
         return total;
     }
-    total % interval
+    total % interval as u64
 }
 
-fn mark(e: u64, n: u64, need: u64) -> Mark
+fn mark(e: u64, n: u32, need: u32) -> Mark
     ensures { λ r. ⌜ r ≡ next.mark e n need ⌝ }
 {
     Mark {
@@ -136,7 +136,7 @@ fn mark(e: u64, n: u64, need: u64) -> Mark
     }
 }
 
-pub(crate) fn after_act(chip: Chip, r: Record, e: u64, n: u64, a: u64, s: Shared) -> Shared
+pub(crate) fn after_act(chip: Chip, r: Record, e: u64, n: u32, a: u64, s: Shared) -> Shared
     ensures { λ x. ⌜ x ≡ next.markedNext chip Act r e n a s ⌝ }
 {
     let a0 = s.acts[0];
@@ -147,7 +147,7 @@ pub(crate) fn after_act(chip: Chip, r: Record, e: u64, n: u64, a: u64, s: Shared
     x
 }
 
-pub(crate) fn after_pre(chip: Chip, r: Record, e: u64, n: u64, a: u64, s: Shared) -> Shared
+pub(crate) fn after_pre(chip: Chip, r: Record, e: u64, n: u32, a: u64, s: Shared) -> Shared
     ensures { λ x. ⌜ x ≡ next.markedNext chip Pre r e n a s ⌝ }
 {
     let mut x = s;
@@ -156,7 +156,7 @@ pub(crate) fn after_pre(chip: Chip, r: Record, e: u64, n: u64, a: u64, s: Shared
 }
 
 // The greatest start so far, of equals the later.
-fn later_start(m: Mark, f: u64, n: u64, trp: u64) -> Mark
+fn later_start(m: Mark, f: u64, n: u32, trp: u32) -> Mark
     ensures { λ x. ⌜ x ≡ next.laterStart m f n trp ⌝ }
 {
     if m.at <= f {
@@ -166,7 +166,7 @@ fn later_start(m: Mark, f: u64, n: u64, trp: u64) -> Mark
 }
 
 // w: what the registers in force ask for.
-pub(crate) fn after_rd(chip: Chip, w: Asks, r: Record, e: u64, n: u64, a: u64, s: Shared) -> Shared
+pub(crate) fn after_rd(chip: Chip, w: Asks, r: Record, e: u64, n: u32, a: u64, s: Shared) -> Shared
     requires { ⌜ Small chip ⌝ }
     requires { ⌜ e ≤ farEdge ⌝ }
     requires { ⌜ a ≤ farEdge ⌝ }
@@ -192,7 +192,7 @@ pub(crate) fn after_rd(chip: Chip, w: Asks, r: Record, e: u64, n: u64, a: u64, s
     x
 }
 
-fn one_of(yes: bool, a: u64, b: u64) -> u64
+fn one_of(yes: bool, a: u32, b: u32) -> u32
     ensures { λ r. ⌜ r ≡ cond yes a b ⌝ }
 {
     if yes {
@@ -201,7 +201,7 @@ fn one_of(yes: bool, a: u64, b: u64) -> u64
     b
 }
 
-pub(crate) fn after_wr(chip: Chip, w: Asks, r: Record, e: u64, n: u64, a: u64, s: Shared) -> Shared
+pub(crate) fn after_wr(chip: Chip, w: Asks, r: Record, e: u64, n: u32, a: u64, s: Shared) -> Shared
     requires { ⌜ Small chip ⌝ }
     requires { ⌜ e ≤ farEdge ⌝ }
     requires { ⌜ Asked chip (s .regs) w ⌝ }
@@ -224,7 +224,7 @@ pub(crate) fn after_wr(chip: Chip, w: Asks, r: Record, e: u64, n: u64, a: u64, s
     x
 }
 
-fn after_ref(chip: Chip, r: Record, e: u64, n: u64, a: u64, s: Shared) -> Shared
+fn after_ref(chip: Chip, r: Record, e: u64, n: u32, a: u64, s: Shared) -> Shared
     ensures { λ x. ⌜ x ≡ next.markedNext chip Ref r e n a s ⌝ }
 {
     let mut rests = s.rests;
@@ -235,7 +235,7 @@ fn after_ref(chip: Chip, r: Record, e: u64, n: u64, a: u64, s: Shared) -> Shared
     x
 }
 
-fn after_zq(chip: Chip, r: Record, e: u64, n: u64, a: u64, s: Shared) -> Shared
+fn after_zq(chip: Chip, r: Record, e: u64, n: u32, a: u64, s: Shared) -> Shared
     ensures { λ x. ⌜ x ≡ next.markedNext chip Zq r e n a s ⌝ }
 {
     let mut rests = s.rests;
@@ -252,7 +252,7 @@ fn after_zq(chip: Chip, r: Record, e: u64, n: u64, a: u64, s: Shared) -> Shared
     x
 }
 
-fn after_sre(chip: Chip, r: Record, e: u64, n: u64, a: u64, s: Shared) -> Shared
+fn after_sre(chip: Chip, r: Record, e: u64, n: u32, a: u64, s: Shared) -> Shared
     requires { ⌜ Small chip ⌝ }
     ensures { λ x. ⌜ x ≡ next.markedNext chip Sre r e n a s ⌝ }
 {
@@ -264,7 +264,7 @@ fn after_sre(chip: Chip, r: Record, e: u64, n: u64, a: u64, s: Shared) -> Shared
     x
 }
 
-fn after_srx(chip: Chip, r: Record, e: u64, n: u64, a: u64, s: Shared) -> Shared
+fn after_srx(chip: Chip, r: Record, e: u64, n: u32, a: u64, s: Shared) -> Shared
     ensures { λ x. ⌜ x ≡ next.markedNext chip Srx r e n a s ⌝ }
 {
     let mut rests = s.rests;
@@ -277,7 +277,7 @@ fn after_srx(chip: Chip, r: Record, e: u64, n: u64, a: u64, s: Shared) -> Shared
     x
 }
 
-fn after_mrs(chip: Chip, r: Record, e: u64, n: u64, a: u64, s: Shared) -> Shared
+fn after_mrs(chip: Chip, r: Record, e: u64, n: u32, a: u64, s: Shared) -> Shared
     ensures { λ x. ⌜ x ≡ next.markedNext chip Mrs r e n a s ⌝ }
 {
     let b = r.bank % 8;

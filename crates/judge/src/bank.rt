@@ -2,7 +2,6 @@
 use crate::Asks;
 use crate::easy::asks_of;
 use crate::needs::rd_start;
-use crate::needs::wide;
 use crate::needs::wr_start;
 use chip::Chip;
 use chip::Regs;
@@ -23,7 +22,7 @@ pub(crate) fn due(chip: Chip, k: Kept) -> u64
     requires { ⌜ k .acted .at ≤ farEdge ⌝ }
     ensures { λ r. ⌜ r ≡ next.due chip k ⌝ }
 {
-    let last = k.acted.at + chip.most;
+    let last = k.acted.at + chip.most as u64;
     if k.shut.num < k.acted.num {
         return last + 1;
     }
@@ -34,7 +33,7 @@ pub(crate) fn due(chip: Chip, k: Kept) -> u64
 }
 
 // The record's own bank after it.
-pub(crate) fn kept_next(chip: Chip, c: Command, r: Record, e: u64, n: u64, g: Regs, k: Kept) -> Kept
+pub(crate) fn kept_next(chip: Chip, c: Command, r: Record, e: u64, n: u32, g: Regs, k: Kept) -> Kept
     requires { ⌜ Small chip ⌝ }
     requires { ⌜ e ≤ farEdge ⌝ }
     requires { ⌜ k .acted .at ≤ farEdge ⌝ }
@@ -58,14 +57,14 @@ pub(crate) fn kept_next(chip: Chip, c: Command, r: Record, e: u64, n: u64, g: Re
 }
 
 // A bank after a PRE of all.
-pub(crate) fn kept_shut(chip: Chip, e: u64, n: u64, k: Kept) -> Kept
+pub(crate) fn kept_shut(chip: Chip, e: u64, n: u32, k: Kept) -> Kept
     ensures { λ x. ⌜ x ≡ next.keptShut chip e n k ⌝ }
 {
     shut_by(k, e, n, chip.trp)
 }
 
 // The bank with a precharge that starts at edge f.
-fn shut_by(k: Kept, f: u64, n: u64, need: u64) -> Kept
+fn shut_by(k: Kept, f: u64, n: u32, need: u32) -> Kept
     ensures { λ x. ⌜ x ≡ next.shutBy k f n need ⌝ }
 {
     let mut x = k;
@@ -79,11 +78,10 @@ fn shut_by(k: Kept, f: u64, n: u64, need: u64) -> Kept
 }
 
 // w: what the registers g ask for.
-pub(crate) fn acted(chip: Chip, w: Asks, r: Record, e: u64, n: u64, g: Regs, k: Kept) -> Kept
+pub(crate) fn acted(chip: Chip, w: Asks, r: Record, e: u64, n: u32, g: Regs, k: Kept) -> Kept
     requires { ⌜ Asked chip g w ⌝ }
     ensures { λ x. ⌜ x ≡ next.keptNext chip Act r e n g k ⌝ }
 {
-    let row = wide(r.a);
     let mut x = k;
     let acted = Mark {
         at: e,
@@ -91,11 +89,11 @@ pub(crate) fn acted(chip: Chip, w: Asks, r: Record, e: u64, n: u64, g: Regs, k: 
         need: w.n4,
     };
     x.acted = acted;
-    x.row = row;
+    x.row = r.a;
     x
 }
 
-pub(crate) fn read(chip: Chip, w: Asks, r: Record, e: u64, n: u64, g: Regs, k: Kept) -> Kept
+pub(crate) fn read(chip: Chip, w: Asks, r: Record, e: u64, n: u32, g: Regs, k: Kept) -> Kept
     requires { ⌜ Small chip ⌝ }
     requires { ⌜ e ≤ farEdge ⌝ }
     requires { ⌜ k .acted .at ≤ farEdge ⌝ }
@@ -116,7 +114,7 @@ pub(crate) fn read(chip: Chip, w: Asks, r: Record, e: u64, n: u64, g: Regs, k: K
     x
 }
 
-pub(crate) fn written(chip: Chip, w: Asks, r: Record, e: u64, n: u64, g: Regs, k: Kept) -> Kept
+pub(crate) fn written(chip: Chip, w: Asks, r: Record, e: u64, n: u32, g: Regs, k: Kept) -> Kept
     requires { ⌜ Small chip ⌝ }
     requires { ⌜ e ≤ farEdge ⌝ }
     requires { ⌜ Asked chip g w ⌝ }

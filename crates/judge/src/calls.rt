@@ -75,7 +75,7 @@ impl State {
         if bytes.len() % 6 != 0 {
             return refuse(5, self);
         }
-        if State::LIMIT < self.count + (bytes.len() / 6) as u64 {
+        if State::LIMIT < self.count as u64 + (bytes.len() / 6) as u64 {
             return refuse(7, self);
         }
         if has_zero(bytes) {

@@ -33,21 +33,21 @@ fn better(lo: u64, d: u64, b: u64, k: Pick) -> Pick
     k
 }
 
-pub(crate) fn late24(at: u64, partner: u64, most: u64) -> Late
+pub(crate) fn late24(at: u64, partner: u32, most: u32) -> Late
     requires { ⌜ most ≤ 70000000 ⌝ }
     ensures { λ x. ⌜ x ≡ deadlines.late24 at partner most ⌝ }
 {
     Late {
         at: at,
         rule: 24,
-        partner: partner,
-        needed: most,
-        found: most + 1,
+        partner: partner as u64,
+        needed: most as u64,
+        found: most as u64 + 1,
     }
 }
 
 // The debt reaches 9 where the missing intervals have passed; at hi where the part sleeps.
-pub(crate) fn late25(trefi: u64, d: Debt, partner: u64, edge: u64, hi: u64) -> Late
+pub(crate) fn late25(trefi: u32, d: Debt, partner: u32, edge: u64, hi: u64) -> Late
     requires { ⌜ trefi ≤ 70000000 ⌝ }
     requires { ⌜ edge ≤ farEdge ⌝ }
     ensures { λ x. ⌜ x ≡ deadlines.late25 trefi d partner edge hi ⌝ }
@@ -58,17 +58,17 @@ pub(crate) fn late25(trefi: u64, d: Debt, partner: u64, edge: u64, hi: u64) -> L
     Late {
         at: sleeping(d.sleeps, hi, at),
         rule: 25,
-        partner: partner,
+        partner: partner as u64,
         needed: 8,
         found: 9,
     }
 }
 
-fn missing(trefi: u64, owed: u64) -> u64
+fn missing(trefi: u32, owed: u64) -> u64
     requires { ⌜ trefi ≤ 70000000 ⌝ }
     ensures { λ x. ⌜ deadlines.Missing trefi owed x ⌝ }
 {
-    since(17, owed) * trefi
+    since(17, owed) * trefi as u64
 }
 
 fn sleeping(sleeps: bool, hi: u64, at: u64) -> u64
@@ -101,13 +101,13 @@ pub(crate) fn why(x: Late) -> Break
     }
 }
 
-pub(crate) fn owing(owed: u64, partner: u64) -> Break
+pub(crate) fn owing(owed: u64, partner: u32) -> Break
     ensures { λ r. ⌜ r ≡ deadlines.owing owed partner ⌝ }
 {
     if 17 <= owed {
         return Break::Broken {
             rule: 25,
-            partner: partner,
+            partner: partner as u64,
             needed: 8,
             found: 9,
         };

@@ -49,8 +49,8 @@ pub(crate) fn asks_of(chip: Chip, g: Regs) -> Asks
 fn past(m: Mark, x: u64) -> u64
     ensures { λ r. ⌜ easy.Past m x r ⌝ }
 {
-    if (m.at <= 35184372088832) & (m.need <= 35184372088832) {
-        return most_of(x, m.at + m.need);
+    if m.at <= 35184372088832 {
+        return most_of(x, m.at + m.need as u64);
     }
     35184372088833
 }
@@ -66,18 +66,18 @@ pub(crate) fn free_of(chip: Chip, s: Shared) -> u64
 }
 
 // The edge before which nothing is broken, no deadline passes and no interval of the debt is complete.
-pub(crate) fn clear_of(trefi: u64, outcome: u64, dues: [u64; 8], edge: u64, d: Debt) -> u64
+pub(crate) fn clear_of(trefi: u32, outcome: u64, dues: [u64; 8], edge: u64, d: Debt) -> u64
     requires { ⌜ (trefi ≤ 70000000) × (edge ≤ farEdge) ⌝ }
     ensures { λ x. ⌜ easy.Clear trefi outcome dues edge d x ⌝ }
 {
-    if (outcome != 0) | ((16 < d.owed) | (trefi <= d.phase)) {
+    if (outcome != 0) | ((16 < d.owed) | (trefi as u64 <= d.phase)) {
         return 0;
     }
     let due = soonest(dues, edge, 35184372088833).at;
     if d.sleeps {
         return due;
     }
-    least_of(due, edge + since(trefi, d.phase))
+    least_of(due, edge + since(trefi as u64, d.phase))
 }
 
 fn least_of(a: u64, b: u64) -> u64

@@ -67,15 +67,6 @@ pub(crate) fn fold(chip: Chip, s: State, bytes: &[u8]) -> State
         let c = records::command_of(t.level, r);
         let p = passed_all(r, e, t);
         let q = rank_if(e, clear, free, c);
-        if fine_act(chip, q, e, k, t) {
-            let x = acted(chip, w, r, e, no, t.regs, k);
-            t = after_act(chip, r, e, no, k.acted.at, p);
-            n.banks[b] = x;
-            let d = due(chip, x);
-            n.dues[b] = d;
-            clear = until(e, d, clear);
-            continue;
-        }
         if fine_rd(q, e, k, t) {
             let x = read(chip, w, r, e, no, t.regs, k);
             t = after_rd(chip, w, r, e, no, k.acted.at, p);
@@ -103,6 +94,15 @@ pub(crate) fn fold(chip: Chip, s: State, bytes: &[u8]) -> State
             clear = until(e, d, clear);
             continue;
         }
+        if fine_act(chip, q, e, k, t) {
+            let x = acted(chip, w, r, e, no, t.regs, k);
+            t = after_act(chip, r, e, no, k.acted.at, p);
+            n.banks[b] = x;
+            let d = due(chip, x);
+            n.dues[b] = d;
+            clear = until(e, d, clear);
+            continue;
+        }
         if fine_rest(q) {
             let x = k;
             t = p;
@@ -116,17 +116,16 @@ pub(crate) fn fold(chip: Chip, s: State, bytes: &[u8]) -> State
         if first.outcome != 0 {
             continue;
         }
-        let two = if speaks_of_all(c, r) {
-            let ks = n.banks;
-            first_barred(c, ks, e)
-        } else {
-            barred(c, k, e)
-        };
         let dues = n.dues;
         let pick = soonest(dues, edge, e + 1);
         let late = pick.bank as usize;
         let x24 = late24(pick.at, n.banks[late].acted.num, chip.most);
-        let said = turn(chip, c, r, e, no, edge, k, two, x24, t);
+        let said = if speaks_of_all(c, r) {
+            let ks = n.banks;
+            turn(chip, c, r, e, no, edge, k, first_barred(c, ks, e), x24, t)
+        } else {
+            turn(chip, c, r, e, no, edge, k, barred(c, k, e), x24, t)
+        };
         let v = said.verdict;
         if v.outcome != 0 {
             n.first = v;
@@ -175,7 +174,7 @@ pub(crate) fn record_at(bytes: &[u8], at: usize) -> Record
     )
 }
 
-fn shut_all(chip: Chip, e: u64, n: u64, ks: [Kept; 8]) -> [Kept; 8]
+fn shut_all(chip: Chip, e: u64, n: u32, ks: [Kept; 8]) -> [Kept; 8]
     ensures { λ x. ⌜ x ≡ table (λ b. next.keptShut chip e n (getD ks b empty)) ⌝ }
 {
     [

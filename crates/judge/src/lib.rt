@@ -20,7 +20,7 @@ use kept::Shared;
 pub struct State {
     pub header: Header,
     pub edge: u64,
-    pub count: u64,
+    pub count: u32,
     pub first: Verdict,
     pub banks: [Kept; 8],
     pub dues: [u64; 8],
@@ -72,15 +72,15 @@ pub struct Late {
 // The clocks that ACT, RD and WR leave behind under the registers in force: what rules 4, 10, 11, 14, 13 and 19 need, and from a WR to
 // the start of its auto precharge. long and short: of a read with A12 and without.
 pub struct Asks {
-    pub n4: u64,
-    pub n10: u64,
-    pub n11: u64,
-    pub n14: u64,
-    pub start: u64,
-    pub long13: u64,
-    pub short13: u64,
-    pub long19: u64,
-    pub short19: u64,
+    pub n4: u32,
+    pub n10: u32,
+    pub n11: u32,
+    pub n14: u32,
+    pub start: u32,
+    pub long13: u32,
+    pub short13: u32,
+    pub long19: u32,
+    pub short19: u32,
 }
 
 // What is said of a record, and what all banks share after it.

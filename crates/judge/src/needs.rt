@@ -2,7 +2,6 @@
 use crate::Asks;
 use chip::Chip;
 use chip::Regs;
-use kept::since;
 ghost use mathlib.Core.Path.{_≡_};
 ghost use Prim.Native.Nat.{_+_, _-_, _≤_, max};
 ghost use Rattle.records.specs.declared.Command.the-variants.{Rd, Wr};
@@ -11,40 +10,43 @@ ghost use Rattle.judge.specs.Next as next;
 ghost use Rattle.judge.specs.Easy.{Asked};
 ghost use Rattle.judge.specs.Ranges.{Small, farEdge};
 
-pub(crate) fn need4(trcd: u64, al: u64) -> u64
+pub(crate) fn need4(trcd: u32, al: u32) -> u32
     ensures { λ x. ⌜ x ≡ max (trcd - al) 1 ⌝ }
 {
-    most_of(since(trcd, al), 1)
+    if al < trcd {
+        return trcd - al;
+    }
+    1
 }
 
-pub(crate) fn need10(chip: Chip, g: Regs) -> u64
+pub(crate) fn need10(chip: Chip, g: Regs) -> u32
     requires { ⌜ Small chip ⌝ }
     ensures { λ x. ⌜ x ≡ next.need10 chip g ⌝ }
 {
     chip::al_of(g) + chip.trtp
 }
 
-pub(crate) fn need11(chip: Chip, g: Regs) -> u64
+pub(crate) fn need11(chip: Chip, g: Regs) -> u32
     requires { ⌜ Small chip ⌝ }
     ensures { λ x. ⌜ x ≡ next.need11 chip g ⌝ }
 {
     chip::al_of(g) + chip::cwl_of(g) + chip::h_of(g) + chip.twr
 }
 
-pub(crate) fn need13(g: Regs, a: u16) -> u64
+pub(crate) fn need13(g: Regs, a: u16) -> u32
     ensures { λ x. ⌜ x ≡ clOf g + 2 + bOf g a - cwlOf g ⌝ }
 {
-    since(chip::cl_of(g) + 2 + chip::b_of(g, a), chip::cwl_of(g))
+    less(chip::cl_of(g) + 2 + chip::b_of(g, a), chip::cwl_of(g))
 }
 
-pub(crate) fn need14(chip: Chip, g: Regs) -> u64
+pub(crate) fn need14(chip: Chip, g: Regs) -> u32
     requires { ⌜ Small chip ⌝ }
     ensures { λ x. ⌜ x ≡ cwlOf g + hOf g + chip .twtr ⌝ }
 {
     chip::cwl_of(g) + chip::h_of(g) + chip.twtr
 }
 
-pub(crate) fn need19(g: Regs, a: u16) -> u64
+pub(crate) fn need19(g: Regs, a: u16) -> u32
     ensures { λ x. ⌜ x ≡ alOf g + clOf g + bOf g a ⌝ }
 {
     chip::al_of(g) + chip::cl_of(g) + chip::b_of(g, a)
@@ -58,7 +60,7 @@ pub(crate) fn rd_start(chip: Chip, w: Asks, e: u64, g: Regs, a: u64) -> u64
     requires { ⌜ Asked chip g w ⌝ }
     ensures { λ x. ⌜ x ≡ next.startNow chip Rd e g a ⌝ }
 {
-    most_of(a + chip.tras, e + w.n10)
+    most_of(a + chip.tras as u64, e + w.n10 as u64)
 }
 
 // WR + WL + h + programmed WR.
@@ -67,7 +69,7 @@ pub(crate) fn wr_start(chip: Chip, w: Asks, e: u64, g: Regs, a: u64) -> u64
     requires { ⌜ Asked chip g w ⌝ }
     ensures { λ x. ⌜ x ≡ next.startNow chip Wr e g a ⌝ }
 {
-    e + w.start
+    e + w.start as u64
 }
 
 pub(crate) fn most_of(a: u64, b: u64) -> u64
@@ -79,8 +81,11 @@ pub(crate) fn most_of(a: u64, b: u64) -> u64
     a
 }
 
-pub(crate) fn wide(x: u16) -> u64
-    ensures { λ r. ⌜ r ≡ x ⌝ }
+fn less(a: u32, b: u32) -> u32
+    ensures { λ r. ⌜ r ≡ a - b ⌝ }
 {
-    x as u64
+    if b < a {
+        return a - b;
+    }
+    0
 }

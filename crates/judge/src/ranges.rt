@@ -17,13 +17,13 @@ pub(crate) fn in_range(s: State) -> bool
 }
 
 // The product is worked out only where the count is within the limit.
-fn counted(count: u64, edge: u64) -> bool
+fn counted(count: u32, edge: u64) -> bool
     ensures { λ r. ⌜ r ≡ ranges.counted count edge ⌝ }
 {
     if 1048576 < count {
         return false;
     }
-    edge <= count * 16777216
+    edge <= count as u64 * 16777216
 }
 
 fn banks_ok(banks: [Kept; 8]) -> bool

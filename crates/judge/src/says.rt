@@ -30,7 +30,7 @@ pub(crate) fn turn(
     c: Command,
     r: Record,
     e: u64,
-    n: u64,
+    n: u32,
     edge: u64,
     k: Kept,
     two: Break,
@@ -56,7 +56,7 @@ pub(crate) fn turn(
 }
 
 // A deadline before the edge e; else the record's break; else a deadline at e. No break: all 0.
-fn says(e: u64, n: u64, x24: Late, x25: Late, b: Break, owed: u64, partner: u64) -> Verdict
+fn says(e: u64, n: u32, x24: Late, x25: Late, b: Break, owed: u64, partner: u32) -> Verdict
     ensures { λ r. ⌜ r ≡ step.saysBy e n x24 x25 b owed partner ⌝ }
 {
     let x = sooner(x24, x25);
@@ -66,7 +66,7 @@ fn says(e: u64, n: u64, x24: Late, x25: Late, b: Break, owed: u64, partner: u64)
     say(e, n, b, or_else(late_at(e, x24), owing(owed, partner)))
 }
 
-fn say(e: u64, n: u64, b: Break, d: Break) -> Verdict
+fn say(e: u64, n: u32, b: Break, d: Break) -> Verdict
     ensures { λ r. ⌜ r ≡ step.say e n b d ⌝ }
 {
     match b {
@@ -89,7 +89,7 @@ fn late_at(e: u64, x: Late) -> Break
     Break::Fine
 }
 
-pub(crate) fn verdict_at(e: u64, n: u64, b: Break) -> Verdict
+pub(crate) fn verdict_at(e: u64, n: u32, b: Break) -> Verdict
     ensures { λ r. ⌜ r ≡ step.verdictAt e n b ⌝ }
 {
     match b {
@@ -103,13 +103,13 @@ pub(crate) fn verdict_at(e: u64, n: u64, b: Break) -> Verdict
     }
 }
 
-fn broken_at(e: u64, n: u64, rule: u64, partner: u64, needed: u64, found: u64) -> Verdict
+fn broken_at(e: u64, n: u32, rule: u64, partner: u64, needed: u64, found: u64) -> Verdict
     ensures { λ r. ⌜ r ≡ step.brokenAt e n rule partner needed found ⌝ }
 {
     Verdict {
         outcome: 1,
         rule: rule,
-        number: n,
+        number: n as u64,
         partner: partner,
         edge: e,
         needed: needed,
@@ -123,13 +123,13 @@ pub(crate) fn none() -> Verdict
     clean_at(0, 0)
 }
 
-pub(crate) fn clean_at(count: u64, end: u64) -> Verdict
+pub(crate) fn clean_at(count: u32, end: u64) -> Verdict
     ensures { λ r. ⌜ r ≡ step.cleanAt count end ⌝ }
 {
     Verdict {
         outcome: 0,
         rule: 0,
-        number: count,
+        number: count as u64,
         partner: 0,
         edge: end,
         needed: 0,

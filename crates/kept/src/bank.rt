@@ -11,8 +11,8 @@ pub fn status(k: Kept, t: u64) -> Bank
     if k.shut.num < k.acted.num {
         return Bank::Open {
             at: k.acted.at,
-            num: k.acted.num,
-            row: k.row,
+            num: k.acted.num as u64,
+            row: k.row as u64,
         };
     }
     if k.shut.at <= t {
@@ -20,7 +20,7 @@ pub fn status(k: Kept, t: u64) -> Bank
     }
     Bank::Closing {
         at: k.acted.at,
-        num: k.acted.num,
-        row: k.row,
+        num: k.acted.num as u64,
+        row: k.row as u64,
     }
 }

@@ -15,13 +15,13 @@ ghost use Rattle.kept.specs.Fine as fine;
 fn met(e: u64, m: Mark) -> bool
     ensures { λ r. ⌜ r ≡ fine.met e m ⌝ }
 {
-    m.need <= since(e, m.at)
+    m.need as u64 <= since(e, m.at)
 }
 
-fn met_by(need: u64, e: u64, m: Mark) -> bool
+fn met_by(need: u32, e: u64, m: Mark) -> bool
     ensures { λ r. ⌜ r ≡ fine.metBy need e m ⌝ }
 {
-    (m.num == 0) | (need <= since(e, m.at))
+    (m.num == 0) | (need as u64 <= since(e, m.at))
 }
 
 pub fn fine_act(chip: Chip, q: u64, e: u64, k: Kept, s: Shared) -> bool

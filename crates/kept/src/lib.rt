@@ -25,14 +25,14 @@ pub use spacing::spacings;
 // A record that a rule counts from: its edge (or the start of its precharge), its number, the clocks needed. All 0: none.
 pub struct Mark {
     pub at: u64,
-    pub num: u64,
-    pub need: u64,
+    pub num: u32,
+    pub need: u32,
 }
 
 // A bank: its latest ACT (with rule 4's need) and row, RD (10), WR (11), and the start of its latest precharge (5).
 pub struct Kept {
     pub acted: Mark,
-    pub row: u64,
+    pub row: u16,
     pub read: Mark,
     pub wrote: Mark,
     pub shut: Mark,
@@ -41,18 +41,18 @@ pub struct Kept {
 // The latest RD of all banks, with what rules 10, 13 and 19 need.
 pub struct Read {
     pub at: u64,
-    pub num: u64,
-    pub n10: u64,
-    pub n13: u64,
-    pub n19: u64,
+    pub num: u32,
+    pub n10: u32,
+    pub n13: u32,
+    pub n19: u32,
 }
 
 // The latest WR of all banks, with what rules 11 and 14 need.
 pub struct Wrote {
     pub at: u64,
-    pub num: u64,
-    pub n11: u64,
-    pub n14: u64,
+    pub num: u32,
+    pub n11: u32,
+    pub n14: u32,
 }
 
 // Which registers were written, and whether a DLL reset was.

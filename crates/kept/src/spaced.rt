@@ -17,11 +17,12 @@ pub(crate) fn spaced(k: u64, e: u64, m: Mark, otherwise: Break) -> Break
     ensures { λ r. ⌜ r ≡ marks.spaced k e m otherwise ⌝ }
 {
     let found = since(e, m.at);
-    if found < m.need {
+    let need = m.need as u64;
+    if found < need {
         return Break::Broken {
             rule: k,
-            partner: m.num,
-            needed: m.need,
+            partner: m.num as u64,
+            needed: need,
             found: found,
         };
     }
@@ -29,7 +30,7 @@ pub(crate) fn spaced(k: u64, e: u64, m: Mark, otherwise: Break) -> Break
 }
 
 // The same record under another need; a mark of no record stays one.
-pub fn needing(need: u64, m: Mark) -> Mark
+pub fn needing(need: u32, m: Mark) -> Mark
     ensures { λ r. ⌜ r ≡ marks.needing need m ⌝ }
 {
     if m.num == 0 {

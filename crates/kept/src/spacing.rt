@@ -140,12 +140,18 @@ fn rule23(s: Shared) -> Break
     if s.rests.refreshed.num < s.rests.woke.num {
         return Break::Broken {
             rule: 23,
-            partner: s.rests.woke.num,
+            partner: wide(s.rests.woke.num),
             needed: 0,
             found: 0,
         };
     }
     Break::Fine
+}
+
+fn wide(x: u32) -> u64
+    ensures { λ r. ⌜ r ≡ x ⌝ }
+{
+    x as u64
 }
 
 pub(crate) fn as10(s: Read) -> Mark

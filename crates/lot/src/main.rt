@@ -81,7 +81,7 @@ fn told(
     c: Closed,
     tally: Tally,
     header: [u8; 6],
-    count: u64,
+    count: u32,
     values: bool,
     first: usize,
     end: usize,
@@ -92,9 +92,10 @@ fn told(
     }
     let v = c.verdict;
     let named = find::records(v, first, end);
+    let records = count as u64;
     if values {
-        report::values::report(tally, count, named, c, header);
+        report::values::report(tally, records, named, c, header);
     } else {
-        report::person::report(tally, count, named, c, header);
+        report::person::report(tally, records, named, c, header);
     }
 }

@@ -41,11 +41,11 @@ fn opened(i: usize, values: bool) -> i32 {
     fd
 }
 
-fn begun(i: usize, fd: i32, count: u64, edge: u64) -> Place {
+fn begun(i: usize, fd: i32, count: u32, edge: u64) -> Place {
     Place {
         file: i,
         at: 0,
-        count: count,
+        count: count as u64,
         edge: edge,
         more: 0 <= fd,
         stopped: fd < 0,
@@ -186,7 +186,7 @@ fn checked(
     bytes: &[u8],
     refused: u64,
     other: u64,
-    count: u64,
+    count: u32,
     values: bool,
 ) -> Place {
     if refused != 0 {
@@ -202,21 +202,21 @@ fn checked(
 }
 
 // A line for a file that was read to its end.
-fn tell(p: Place, count: u64, edge: u64, values: bool) {
+fn tell(p: Place, count: u32, edge: u64, values: bool) {
     if p.more | p.stopped {
         return;
     }
     told::read(
         values,
         p.file,
-        std::num::wrapping_sub_u64(count, p.count),
+        std::num::wrapping_sub_u64(count as u64, p.count),
         p.edge,
         edge,
     );
 }
 
 // Where in the section the refused record begins: the one cut short, the one of step 0, the first past the limit.
-fn offset(refused: u64, bytes: &[u8], count: u64) -> usize {
+fn offset(refused: u64, bytes: &[u8], count: u32) -> usize {
     if refused == 5 {
         return bytes.len() - bytes.len() % 6;
     }
@@ -229,9 +229,10 @@ fn offset(refused: u64, bytes: &[u8], count: u64) -> usize {
     0
 }
 
-fn past_limit(count: u64) -> usize {
-    if count <= State::LIMIT {
-        return (State::LIMIT - count) as usize * 6;
+fn past_limit(count: u32) -> usize {
+    let taken = count as u64;
+    if taken <= State::LIMIT {
+        return (State::LIMIT - taken) as usize * 6;
     }
     0
 }

@@ -32,6 +32,9 @@ returns-2 : tie.Need-returns-2
 unfolding sectionOf
 returns-2 c = c .refuse2 .ensures ∙ rw (sym (c .before .before .before .in-range .ensures) ∙ not-false _ (c .before .before .if1 .left), ne-eqb _ _ (c .before .if2 .taken))
 
+cast-if3 : tie.Need-cast-if3
+cast-if3 c = let t = tested _ (sym (c .before .before .before .in-range .ensures) ∙ not-false _ (c .before .before .if1 .left)) in omega (arith, t .count)
+
 add-if3 : tie.Need-add-if3
 add-if3 c = let t = tested _ (sym (c .before .before .before .in-range .ensures) ∙ not-false _ (c .before .before .if1 .left)) in omega (arith, t .count)
 
@@ -77,6 +80,7 @@ section-spec =
     returns
     refuse-requires-2
     returns-2
+    cast-if3
     add-if3
     refuse-requires-3
     returns-3

@@ -3,16 +3,12 @@
 use Rattle.judge.proofs.Asking.{n4-is}
 use Rattle.judge.specs.Next.{keptNext}
 use borrow.Author.Tests.{lt-ltb, le-ltb, eq-eqb, ne-eqb}
-use borrow.Author.Needs.{needs}
 use Rattle.judge.proofs.bank.acted.Statement.{statement}
 use Rattle.judge.proofs.bank.acted.Tie as tie
 
-wide-requires : tie.Need-wide-requires
-wide-requires c κs = search needs
-
 returns : tie.Need-returns
 unfolding keptNext
-returns c = simp (c .wide .ensures, n4-is _ _ _ (c .before .pre))
+returns c = simp (n4-is _ _ _ (c .pre))
 
 pub acted-spec : {M : Type 1} → statement M
-acted-spec = tie.close (tie.spec wide-requires returns)
+acted-spec = tie.close (tie.spec returns)

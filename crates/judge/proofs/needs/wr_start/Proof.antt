@@ -7,6 +7,9 @@ use borrow.Author.Needs.{needs}
 use Rattle.judge.proofs.needs.wr_start.Statement.{statement}
 use Rattle.judge.proofs.needs.wr_start.Tie as tie
 
+cast-result : tie.Need-cast-result
+cast-result c = search needs
+
 add-result : tie.Need-add-result
 add-result c = search needs
 
@@ -14,4 +17,4 @@ returns : tie.Need-returns
 returns c = wr-starts _ _ _ (c .before .pre .1) _ _
 
 pub wr-start-spec : {M : Type 1} → statement M
-wr-start-spec = tie.close (tie.spec add-result returns)
+wr-start-spec = tie.close (tie.spec cast-result add-result returns)
