@@ -1,1 +1,2 @@
 pub mod Glossary
+pub mod Meanings

@@ -3,6 +3,7 @@
 ghost use mathlib.Core.Path.{_≡_};
 ghost use Prim.Native.Nat.{_+_, _<_};
 ghost use Rattle.glossary.specs.Glossary.{within, rowOf, nameOf};
+ghost use Rattle.glossary.specs.Meanings.{meaningOf};
 
 // A kind of the tally, and levels: 0 low, 1 high, 2 any. CKE before and now; CS, RAS, CAS, WE; A10.
 pub struct Row {
@@ -118,7 +119,9 @@ pub fn name_of(kind: usize) -> [u8; 9]
 }
 
 // What it means.
-pub fn meaning_of(kind: usize) -> [u8; 52] {
+pub fn meaning_of(kind: usize) -> [u8; 52]
+    ensures { λ r. ⌜ r ≡ meaningOf kind ⌝ }
+{
     let at = least(kind, 16);
     MEANINGS[at]
 }
