@@ -33,7 +33,7 @@ use Rattle.judge.specs.Deadlines.{better, soonest, sooner, late24, late2
 use Rattle.judge.specs.Easy.{Past, Free, Quiet, Clear, until, passedBy}
 use Rattle.judge.specs.Ranges.{farEdge}
 use Rattle.judge.specs.Step.{noVerdict, saysBy, verdictAt}
-use Rattle.judge.proofs.Ranging.{both, neither}
+use Rattle.kept.proofs.Both.{both, neither}
 
 -- ── Due edges ───────────────────────────────────────────────────────────────────────────────
 

@@ -4,7 +4,6 @@ pub mod Ranging
 pub mod Folds
 pub mod Asking
 pub mod Easing
-pub mod Finding
 pub mod Running
 pub mod Turning
 pub mod Closing

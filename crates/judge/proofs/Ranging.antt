@@ -10,6 +10,7 @@ use mathlib.Core.Path.{_≡_, refl, ap, sym, _∙_, subst}
 use lib.Dec.{eqb, leb, ltb}
 use lib.ListN.{getD, set}
 use borrow.Author.Tests.{leb-true, ltb-true, ltb-false, leb-false, eqb-true}
+use Rattle.kept.proofs.Both.{both}
 use Rattle.laws.specs.Eight.{table}
 use Rattle.laws.proofs.Eight.{getD-table, at-set}
 use Rattle.header.specs.declared.Header.{Header}
@@ -39,14 +40,6 @@ use Rattle.judge.specs.Step.{say, verdictAt, lateAt, saysBy, isClean, tu
 use Rattle.judge.specs.Ranges.{limit, lastEdge, bankOk, banksOk, counted, inRange, Small, Ranged}
 
 -- ── From the test to the facts ──────────────────────────────────────────────────────────────
-
-pub both : (b x : Bool) → b && x ≡ true → (b ≡ true) × (x ≡ true)
-both true x h = (refl, h)
-both false x h = let z : false ≡ true = h in let n : _≡_ {A = ℕ} 0 1 = cc in absurd (omega arith)
-
-pub neither : (b x : Bool) → b || x ≡ false → (b ≡ false) × (x ≡ false)
-neither true x h = let z : true ≡ false = h in let n : _≡_ {A = ℕ} 0 1 = cc in absurd (omega arith)
-neither false x h = (refl, h)
 
 banks-at : (ks : List Kept) (n : ℕ) → banksOk ks n ≡ true → (b : ℕ) → b < n → getD ks b empty .acted .at ≤ lastEdge
 unfolding banksOk

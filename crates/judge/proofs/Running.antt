@@ -25,7 +25,7 @@ use Rattle.judge.specs.Deadlines.{late25, next24}
 use Rattle.judge.specs.Easy.{Asked, Free, Quiet, Clear, until, rankIf, passedBy, passedAll, holding}
 use Rattle.judge.specs.Step.{noVerdict, turnOf, turnIn, commandIn, ownBank, stepOf}
 use Rattle.judge.proofs.Easing.{soonest-none, says-nothing}
-use Rattle.judge.proofs.Finding.{breaksOf}
+use Rattle.kept.proofs.Finding.{breaksOf}
 use Rattle.judge.proofs.Folds.{Folding, moves-one}
 
 -- a debt that no interval adds to and no command changes

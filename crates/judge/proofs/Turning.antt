@@ -13,7 +13,7 @@ use Rattle.answers.specs.declared.Break.the-variants.{Fine}
 use Rattle.answers.specs.declared.Verdict.{Verdict}
 use Rattle.records.specs.declared.Record.{Record}
 use Rattle.records.specs.declared.Command.{Command}
-use Rattle.records.specs.declared.Command.the-variants.{Mrs, Ref, Pre, Act, Wr, Rd, Nop, Des, Sre, Srx, Low}
+use Rattle.records.specs.declared.Command.the-variants.{Mrs, Ref, Pre, Act, Wr, Rd, Zq, Nop, Des, Sre, Srx, Low}
 use Rattle.records.specs.Command.{rank, isA, a10, bankIn, commandOf}
 use Rattle.records.specs.Record.{records, recordAt}
 use Rattle.chip.specs.declared.Chip.{Chip}
@@ -26,13 +26,14 @@ use Rattle.kept.specs.declared.Shared.{Shared}
 use Rattle.judge.specs.declared.State.{State}
 use Rattle.kept.specs.Marks.{empty}
 use Rattle.judge.specs.Next.{mark, passed, preAll, keptShut, keptNext, startNow, due, debtNext, regsNext, restsNext, stamped, actsNext, writtenNext, readNext, wroteNext, shutNext, markedNext}
-use Rattle.judge.specs.Easy.{Asked, Unhindered, Free, Quiet, Clear, until, rankIf, passedBy, passedAll, holding}
+use Rattle.kept.specs.Fine.{Unhindered}
+use Rattle.judge.specs.Easy.{Asked, Free, Quiet, Clear, until, rankIf, passedBy, passedAll, holding}
 use Rattle.judge.specs.Ranges.{farEdge, Ready}
 use Rattle.judge.specs.Step.{stoppedOf, stepOf, foldOf}
-use Rattle.judge.proofs.Ranging.{both}
+use Rattle.kept.proofs.Both.{both}
 use Rattle.judge.proofs.Easing.{clear-on, clear-broken, clear-never}
 use Rattle.kept.specs.Fine.{fineAct, fineRd, fineWr, finePre, fineRest}
-use Rattle.judge.proofs.Finding.{breaksOf, ranked, of-rank, act-fine, rd-fine, wr-fine, pre-fine, nop-fine, des-fine, low-fine}
+use Rattle.kept.proofs.Finding.{breaksOf, ranked, of-rank, act-fine, rd-fine, wr-fine, pre-fine, nop-fine, des-fine, low-fine}
 use Rattle.judge.proofs.Folds.{Folding, fold-start, fold-end, fold-more, near-edges, was-broken}
 use Rattle.judge.proofs.Running.{still, short, easy-step}
 
@@ -56,33 +57,31 @@ pub record Frequent (C : Chip) (c : Command) (r : Record) : Type 0 where
   pub srx : isA Srx c ≡ false
 
 module _ (C : Chip) (r : Record) where
-  pub act-frequent : Frequent C Act r
+  -- by the commands that it is not
+  by-others : (c : Command) → isA Mrs c ≡ false → isA Ref c ≡ false → isA Zq c ≡ false → isA Sre c ≡ false → isA Srx c ≡ false → preAll c r ≡ false
+      → Frequent C c r
   unfolding regsNext restsNext
-  act-frequent = record { one = refl; regs = λ g. refl; rests = λ e n s. refl; mrs = refl; ref = refl; sre = refl; srx = refl }
+  by-others c mrs ref zq sre srx one = record {
+    one = one;
+    regs = λ g. rw mrs;
+    rests = λ e n s. rw (mrs, ref, zq, sre, srx);
+    mrs = mrs;
+    ref = ref;
+    sre = sre;
+    srx = srx;
+  }
+
+  pub act-frequent : Frequent C Act r
+  act-frequent = by-others Act refl refl refl refl refl refl
 
   pub rd-frequent : Frequent C Rd r
-  unfolding regsNext restsNext
-  rd-frequent = record { one = refl; regs = λ g. refl; rests = λ e n s. refl; mrs = refl; ref = refl; sre = refl; srx = refl }
+  rd-frequent = by-others Rd refl refl refl refl refl refl
 
   pub wr-frequent : Frequent C Wr r
-  unfolding regsNext restsNext
-  wr-frequent = record { one = refl; regs = λ g. refl; rests = λ e n s. refl; mrs = refl; ref = refl; sre = refl; srx = refl }
+  wr-frequent = by-others Wr refl refl refl refl refl refl
 
   pub pre-frequent : a10 r ≡ false → Frequent C Pre r
-  unfolding regsNext restsNext
-  pre-frequent h = record { one = h; regs = λ g. refl; rests = λ e n s. refl; mrs = refl; ref = refl; sre = refl; srx = refl }
-
-  pub nop-frequent : Frequent C Nop r
-  unfolding regsNext restsNext
-  nop-frequent = record { one = refl; regs = λ g. refl; rests = λ e n s. refl; mrs = refl; ref = refl; sre = refl; srx = refl }
-
-  pub des-frequent : Frequent C Des r
-  unfolding regsNext restsNext
-  des-frequent = record { one = refl; regs = λ g. refl; rests = λ e n s. refl; mrs = refl; ref = refl; sre = refl; srx = refl }
-
-  pub low-frequent : Frequent C Low r
-  unfolding regsNext restsNext
-  low-frequent = record { one = refl; regs = λ g. refl; rests = λ e n s. refl; mrs = refl; ref = refl; sre = refl; srx = refl }
+  pre-frequent one = by-others Pre refl refl refl refl refl one
 
 -- a command that breaks nothing and keeps all as it is
 pub record Resting (C : Chip) (c : Command) (r : Record) (e m : ℕ) (ks : List Kept) (t : Shared) : Type 0 where
@@ -94,15 +93,15 @@ pub record Resting (C : Chip) (c : Command) (r : Record) (e m : ℕ) (ks : List 
 module _ (C : Chip) (r : Record) (e m : ℕ) (ks : List Kept) (t : Shared) where
   nop-rests : Resting C Nop r e m ks t
   unfolding keptNext markedNext actsNext restsNext regsNext writtenNext readNext wroteNext shutNext
-  nop-rests = record { fine = nop-fine C r 0 e ks t; frequent = nop-frequent C r; kept = λ g k. refl; marked = λ a p. refl }
+  nop-rests = record { fine = nop-fine C r 0 e ks t; frequent = by-others C r Nop refl refl refl refl refl refl; kept = λ g k. refl; marked = λ a p. refl }
 
   des-rests : Resting C Des r e m ks t
   unfolding keptNext markedNext actsNext restsNext regsNext writtenNext readNext wroteNext shutNext
-  des-rests = record { fine = des-fine C r 0 e ks t; frequent = des-frequent C r; kept = λ g k. refl; marked = λ a p. refl }
+  des-rests = record { fine = des-fine C r 0 e ks t; frequent = by-others C r Des refl refl refl refl refl refl; kept = λ g k. refl; marked = λ a p. refl }
 
   low-rests : Resting C Low r e m ks t
   unfolding keptNext markedNext actsNext restsNext regsNext writtenNext readNext wroteNext shutNext
-  low-rests = record { fine = low-fine C r 0 e ks t; frequent = low-frequent C r; kept = λ g k. refl; marked = λ a p. refl }
+  low-rests = record { fine = low-fine C r 0 e ks t; frequent = by-others C r Low refl refl refl refl refl refl; kept = λ g k. refl; marked = λ a p. refl }
 
 -- a PRE of one bank is a PRE of all for its bank
 pub shut-is : (C : Chip) (r : Record) (e m : ℕ) (g : Regs) (k : Kept) → keptShut C e m k ≡ keptNext C Pre r e m g k

@@ -18,9 +18,8 @@ use Rattle.kept.specs.declared.Mark.{Mark}
 use Rattle.judge.specs.declared.Asks.{Asks}
 use Rattle.kept.specs.declared.Shared.{Shared}
 use Rattle.judge.specs.declared.State.{State}
-use Rattle.kept.specs.Marks.{needing}
 use Rattle.judge.specs.Next.{need4, need10, need11, passed}
-use Rattle.kept.specs.Fine.{met}
+use Rattle.kept.specs.Fine.{met, Unhindered}
 use Rattle.judge.specs.Ranges.{farEdge}
 
 -- by the registers in force; long and short: of a read with A12 and without
@@ -44,14 +43,7 @@ pub record Asked (C : Chip) (g : Regs) (w : Asks) : Type 0 where
   pub n10 : w .n10 ≤ 70000255
   pub start : w .start ≤ 1020
 
--- at edge e no REF, MRS, ZQ or SRX is in the way (rules 15, 17, 18, 21)
-pub record Unhindered (C : Chip) (s : Shared) (e : ℕ) : Type 0 where
-  pub refreshed : met e (s .rests .refreshed) ≡ true
-  pub moded : met e (needing (C .tmod) (s .mrs)) ≡ true
-  pub tuned : met e (s .rests .tuned) ≡ true
-  pub woke : met e (s .rests .woke) ≡ true
-
--- so it is from edge x on
+-- from edge x on no REF, MRS, ZQ or SRX is in the way
 pub record Free (C : Chip) (s : Shared) (x : ℕ) : Type 0 where
   pub free : (e : ℕ) → x ≤ e → e ≤ farEdge → Unhindered C s e
 

@@ -1,14 +1,15 @@
 -- When a record of a frequent command breaks nothing: the rules of `Breaks`, with no word of what would be broken.
 -- Assumes nothing.
 use Prim.Native.Nat.{ℕ, _-_}
-use mathlib.Core.Bool.{Bool, _&&_, _||_}
+use mathlib.Core.Bool.{Bool, true, _&&_, _||_}
+use mathlib.Core.Path.{_≡_}
 use lib.Dec.{eqb, leb, ltb}
 use lib.ListN.{getD}
 use Rattle.chip.specs.declared.Chip.{Chip}
 use Rattle.kept.specs.declared.Mark.{Mark}
 use Rattle.kept.specs.declared.Kept.{Kept}
 use Rattle.kept.specs.declared.Shared.{Shared}
-use Rattle.kept.specs.Marks.{none, as10, as11, as13, as14}
+use Rattle.kept.specs.Marks.{none, needing, as10, as11, as13, as14}
 
 -- the clocks that the mark needs have passed at edge e
 abbrev pub met : (e : ℕ) → Mark → Bool
@@ -17,6 +18,13 @@ met e m = leb (m .need) (e - m .at)
 -- the same under a rule of another, constant need
 abbrev pub metBy : (need e : ℕ) → Mark → Bool
 metBy n e m = eqb (m .num) 0 || leb n (e - m .at)
+
+-- at edge e no REF, MRS, ZQ or SRX is in the way (rules 15, 17, 18, 21)
+pub record Unhindered (C : Chip) (s : Shared) (e : ℕ) : Type 0 where
+  pub refreshed : met e (s .rests .refreshed) ≡ true
+  pub moded : met e (needing (C .tmod) (s .mrs)) ≡ true
+  pub tuned : met e (s .rests .tuned) ≡ true
+  pub woke : met e (s .rests .woke) ≡ true
 
 -- of a record whose rank is q, with 15, 17, 18 and 21 out of the way: an ACT, and rules 2, 3, 5 to 8 hold of it
 unfoldable pub fineAct : Chip → (q e : ℕ) → Kept → Shared → Bool

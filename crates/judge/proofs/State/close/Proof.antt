@@ -5,7 +5,8 @@ use lib.Dec.{ltb}
 use native.Mathlib.Omega.{arith}
 use mathlib.Core.Path.{_≡_, refl, sym, ap, _∙_}
 use mathlib.Core.Bool.{Bool, true, false, _||_}
-use Rattle.judge.proofs.Ranging.{tested, small, neither}
+use Rattle.judge.proofs.Ranging.{tested, small}
+use Rattle.kept.proofs.Both.{neither}
 use Rattle.judge.specs.Calls.{closeOf}
 use Rattle.judge.specs.Ranges.{inRange}
 use borrow.Author.Needs.{needs}

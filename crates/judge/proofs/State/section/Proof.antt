@@ -8,7 +8,8 @@ use Rattle.records.specs.Record.{records}
 use borrow.Author.Tests.{lt-ltb, le-ltb, eq-eqb, ne-eqb, not-true, not-false, ltb-false}
 use native.Mathlib.Omega.{arith}
 use mathlib.Core.Path.{_≡_, refl, sym, ap, _∙_}
-use Rattle.judge.proofs.Ranging.{tested, small, neither}
+use Rattle.judge.proofs.Ranging.{tested, small}
+use Rattle.kept.proofs.Both.{neither}
 use Rattle.judge.specs.Calls.{sectionOf}
 use Rattle.judge.specs.Ranges.{inRange}
 use borrow.Author.Needs.{needs}

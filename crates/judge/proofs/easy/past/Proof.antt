@@ -1,9 +1,6 @@
 -- A mark that can be added up, and one that cannot.
 -- Assumes nothing.
 use native.Mathlib.Omega.{arith}
-use lib.Dec.{leb}
-use borrow.Author.Tests.{leb-true}
-use Rattle.judge.proofs.Ranging.{both}
 use Rattle.judge.proofs.Easing.{past-sum, past-never}
 use borrow.Author.Needs.{needs}
 use Rattle.judge.proofs.easy.past.Statement.{statement}

@@ -18,14 +18,13 @@ use Rattle.records.specs.declared.Command.{Command}
 use Rattle.records.specs.declared.Command.the-variants.{Mrs, Ref, Pre, Act, Wr, Rd, Zq, Nop, Des, Sre, Srx, Low, Bad}
 use Rattle.records.specs.Command.{rank, a10, bankIn}
 use Rattle.chip.specs.declared.Chip.{Chip}
 use Rattle.kept.specs.declared.Mark.{Mark}
 use Rattle.kept.specs.declared.Kept.{Kept}
 use Rattle.kept.specs.declared.Shared.{Shared}
 use Rattle.kept.specs.Marks.{none, empty, needing, spaced, as10, as11, as13, as14}
 use Rattle.kept.specs.Breaks.{orElse, joined, barredBy, statusOf, rule2, rule3, waits, spacings}
-use Rattle.kept.specs.Fine.{met, metBy, fineAct, fineRd, fineWr, finePre, fineRest}
-use Rattle.judge.specs.Easy.{Unhindered}
-use Rattle.judge.proofs.Ranging.{both}
+use Rattle.kept.specs.Fine.{met, metBy, fineAct, fineRd, fineWr, finePre, fineRest, Unhindered}
+use Rattle.kept.proofs.Both.{both}
 
 -- ── The command of a rank ───────────────────────────────────────────────────────────────────
 
