@@ -82,7 +82,7 @@ module _ (C : Chip) (S : Sound C) (r : Record) (p : Past) (h : Clean C p) where
       ∙ push (mark need) (a10 r) (latest k p) (latest (λ s. k s && on b s) p)
       ∙ ap (mark need) (sym (covered-latest k (a10 r) b p))
 
-  by : (R : Spacing) (m : Mark) → Dominated (R .from (r ∷ p)) (R .need) p → m ≡ mark (R .need) (latest (R .from (r ∷ p)) p) → at R m ≡ row R r p
+  by : (R : Spacing) (m : Mark) → Dominated edge (R .from (r ∷ p)) (R .need) p → m ≡ mark (R .need) (latest (R .from (r ∷ p)) p) → at R m ≡ row R r p
   by R m d x = ap (at R) x ∙ sym (row-agrees R r p d)
 
   abbrev all : Bool
@@ -126,7 +126,7 @@ module _ (C : Chip) (S : Sound C) (r : Record) (p : Past) (h : Clean C p) where
 
   -- one row more
   row-also :
-      (R : Spacing) (m : Mark) {rest others : Break} → Dominated (R .from (r ∷ p)) (R .need) p → m ≡ mark (R .need) (latest (R .from (r ∷ p)) p)
+      (R : Spacing) (m : Mark) {rest others : Break} → Dominated edge (R .from (r ∷ p)) (R .need) p → m ≡ mark (R .need) (latest (R .from (r ∷ p)) p)
       → rest ≡ others → judge.whenIs (R .to (r ∷ p)) (R .name) e m rest ≡ orElse (row R r p) others
   row-also R m d x q = also (R .to (r ∷ p)) (R .name) e m (by R m d x) q
 

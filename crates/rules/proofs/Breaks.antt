@@ -16,10 +16,11 @@ use Rattle.rules.specs.Banks.{start}
 use Rattle.rules.specs.Search.{asking}
 use Rattle.rules.specs.Rules.{Row, r4, r6, r7, r9, r10, r11, r12r, r12w, r13, r14, r15, r16, r17, r18, r19, r20, r21, r22, rule1, rule2, rule3, rule5, rule8, rule23, since, fourth, spacing, spaced, checks}
 use Rattle.rules.proofs.Generic.{decide, broken-fine, short-fine, fine-kept}
-use Rattle.rules.proofs.Events.{never, event-some, greatest-is}
+use Rattle.rules.proofs.Events.{never, event-some}
 use Rattle.rules.proofs.Clean.{Among, first, next, lowest-fine, is-other, act-not-all}
+use Rattle.rules.proofs.Starts.{since-kept}
 use Rattle.rules.proofs.Partners.{Latest, latest-one, Fourth, fourth-one}
-use Rattle.rules.proofs.Pairs.{speaksOf, mayFind, Lacks, code, registers, reset, Closing-kind, own, any, start-none}
+use Rattle.rules.proofs.Pairs.{speaksOf, mayFind, Lacks, code, registers, reset, Closing-kind, own, any}
 use Rattle.rules.proofs.Least.{Pair, other-change, in-the-way, lacking, too-soon, precharging, five-acts, no-refresh, Says, says-row, says1, says2, says3, says5, says8, says23, BreaksRecord}
 
 module _ (C : Chip) (r : Record) (p : Past) where
@@ -86,7 +87,7 @@ module _ (C : Chip) (r : Record) (p : Past) where
   row-bad : (x : Row) → spacing C x .to (r ∷ p) ≡ true → (s : Past) → s ∈ p → spacing C x .from (r ∷ p) s ≡ true → e - edge s < spacing C x .need s
       → spaced C x r p ≡ Fine → ⊥
   row-bad x y s i z l h =
-      let w = fine-kept (spacing C x .name) (asking (spacing C x .from (r ∷ p)) (spacing C x .need)) e p (rw y at h) s i in
+      let w = fine-kept edge (spacing C x .name) (asking (spacing C x .from (r ∷ p)) (spacing C x .need)) e p (rw y at h) s i in
       let n : spacing C x .need s ≤ e - edge s = rw z at w in
       omega arith
 
@@ -99,14 +100,7 @@ module _ (C : Chip) (r : Record) (p : Past) where
   lack-bad (reset y z) h = broken-fine (rw (is-other Rd Mrs (r ∷ p) (λ u. omega arith) y, is-other Rd Act (r ∷ p) (λ u. omega arith) y, y, z) at h)
 
   start-bad : (kind : Past → Bool) (s : Past) → s ∈ p → kind s ≡ true → e - start C s < C .trp → since C e (greatest kind (start C) p) ≡ Fine → ⊥
-  start-bad kind s i y l h = ⊎-elim
-      (λ w. never y (w .1 s i))
-      (λ w. omega (arith, enough (greatest kind (start C) p) (w .event) h, w .most s i y))
-      (greatest-is kind (start C) (start-none C) p)
-    where
-      enough : (g : Past) → g ∈ p → since C e g ≡ Fine → C .trp ≤ e - start C g
-      enough [] i z = absurd (omega (arith, event-some i))
-      enough (q ∷ g) i z = short-fine 5 e (start C (q ∷ g)) (number (q ∷ g)) (C .trp) Fine z .0
+  start-bad kind s i y l h = omega (arith, since-kept C kind e p h s i y)
 
   precharge-bad : (kind : Past → Bool) → Closing-kind C r p kind → (s : Past) → s ∈ p → kind s ≡ true → e - start C s < C .trp → rule5 C r p ≡ Fine → ⊥
   precharge-bad kind (own y) s i z l h = start-bad kind s i z l (rw y at h)

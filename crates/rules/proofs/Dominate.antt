@@ -55,7 +55,7 @@ module _ (p : Past) (kind set : Past → Bool) (g : ℕ) (most need : Past → �
     (settled : Spaced set (λ _. kind) most p)
     (below : (s : Past) → s ∈ p → kind s ≡ true → need s ≤ most s)
     (steady : (s t : Past) → s ∈ p → t ∈ p → kind s ≡ true → kind t ≡ true → latest set s ≡ latest set t → need t ≤ need s + g) where
-  pub dominated : Dominated kind need p
+  pub dominated : Dominated edge kind need p
   dominated (r ∷ q) t i j y z = ⊎-elim
       (λ (e : latest set q ≡ latest set t).
       let n : set (r ∷ q) ≡ false = other (r ∷ q) y in
@@ -65,7 +65,7 @@ module _ (p : Past) (kind set : Past → Bool) (g : ℕ) (most need : Past → �
 
 -- what is dominated stays so for a part of the kind
 pub dominated-part : (part kind : Past → Bool) (need : Past → ℕ) (p : Past) → ((s : Past) → part s ≡ true → kind s ≡ true)
-    → Dominated kind need p → Dominated part need p
+    → Dominated edge kind need p → Dominated edge part need p
 dominated-part part kind need p f d s t i j y z = d s t i j (f s y) (f t z)
 
 -- with no MRS in between the registers are the same
@@ -99,6 +99,10 @@ or-map false x y f hyp = f hyp
 
 and-true : {a b : Bool} → a ≡ true → b ≡ true → a && b ≡ true
 and-true {b = b} x y = rw x y
+
+pub bank-small : (s : Past) → bankOf s < 8
+bank-small [] = omega arith
+bank-small (r ∷ p) = omega arith
 
 module _ (C : Chip) (S : Sound C) where
   abbrev Settled : Past → Type 0
@@ -146,10 +150,6 @@ module _ (C : Chip) (S : Sound C) where
       (λ (n : touches (bankOf t) (r ∷ q) ≡ false). write-done q t (clean-tail C r q hyp) f′ i y e (rw n at d))
       (decide (touches (bankOf t) (r ∷ q)))
 
-  bank-small : (s : Past) → bankOf s < 8
-  bank-small [] = omega arith
-  bank-small (r ∷ p) = omega arith
-
   -- every write has its clocks before a later MRS
   pub settled : (p : Past) → Clean C p → Spaced (is Mrs) (λ _. is Wr) (need11 C) p
   settled (r ∷ q) hyp m t here j y z =
@@ -172,32 +172,32 @@ module _ (C : Chip) (S : Sound C) where
     read-fit : (s : Past) → s ∈ p → is Rd s ≡ true → Fit C (regs s)
     read-fit s i y = fit-in C s p hyp i (rd-column s y)
 
-    pub dominated10 : Dominated (is Rd) (need10 C) p
+    pub dominated10 : Dominated edge (is Rd) (need10 C) p
     dominated10 = dominated p (is Rd) (is Mrs) 4 (need19 C) (need10 C) rd-not-mrs reads read-settled
         (λ s i y. let f = read-fit s i y in omega (arith, S .rtp-cl (regs s) f, S .b-least (regs s) (addressOf s) f))
         (λ s t i j y z e. let g = regs-same s t e in omega (arith, ap alOf g))
 
-    pub dominated13 : Dominated (is Rd) (need13 C) p
+    pub dominated13 : Dominated edge (is Rd) (need13 C) p
     dominated13 = dominated p (is Rd) (is Mrs) 4 (need19 C) (need13 C) rd-not-mrs reads read-settled
         (λ s i y. omega (arith, S .cwl-least (regs s) (read-fit s i y)))
         (λ s t i j y z e. let g = regs-same s t e in omega (arith, ap clOf g, ap cwlOf g, S .b-most (regs t) (addressOf t) (read-fit t j z), S .b-least (regs s) (addressOf s) (read-fit s i y)))
 
-    pub dominated19 : Dominated (is Rd) (need19 C) p
+    pub dominated19 : Dominated edge (is Rd) (need19 C) p
     dominated19 = dominated p (is Rd) (is Mrs) 4 (need19 C) (need19 C) rd-not-mrs reads read-settled
         (λ s i y. omega arith)
         (λ s t i j y z e. let g = regs-same s t e in omega (arith, ap alOf g, ap clOf g, S .b-most (regs t) (addressOf t) (read-fit t j z), S .b-least (regs s) (addressOf s) (read-fit s i y)))
 
-    pub dominated11 : Dominated (is Wr) (need11 C) p
+    pub dominated11 : Dominated edge (is Wr) (need11 C) p
     dominated11 = dominated p (is Wr) (is Mrs) 4 (need11 C) (need11 C) wr-not-mrs writes (settled p hyp)
         (λ s i y. omega arith)
         (λ s t i j y z e. let g = regs-same s t e in omega (arith, ap alOf g, ap cwlOf g, ap hOf g))
 
-    pub dominated14 : Dominated (is Wr) (need14 C) p
+    pub dominated14 : Dominated edge (is Wr) (need14 C) p
     dominated14 = dominated p (is Wr) (is Mrs) 4 (need11 C) (need14 C) wr-not-mrs writes (settled p hyp)
         (λ s i y. omega (arith, S .wtr-wr))
         (λ s t i j y z e. let g = regs-same s t e in omega (arith, ap cwlOf g, ap hOf g))
 
-    pub dominated4 : (b : ℕ) → Dominated (actOn b) (need4 C) p
+    pub dominated4 : (b : ℕ) → Dominated edge (actOn b) (need4 C) p
     dominated4 b s t i j y z =
         let u = both (is Act s) _ y in
         let v = both (is Act t) _ z in
@@ -205,7 +205,7 @@ module _ (C : Chip) (S : Sound C) where
         let k = clean-spaced C (spacing C r6) (search (first, next) depth 30) p hyp s t i j (u .0) (and-true (v .0) (eq-eqb _ _ e)) in
         omega (arith, S .rcd-rc, S .rcd-least)
 
-    pub dominated18 : Dominated (is Zq) (need18 C) p
+    pub dominated18 : Dominated edge (is Zq) (need18 C) p
     dominated18 (r ∷ q) t i j y z =
         let a : anyCommand (r ∷ q) ≡ true = ap counts (is-command Zq r q y) in
         omega (arith, clean-spaced C (spacing C r18) (search (first, next) depth 30) p hyp (r ∷ q) t i j a z)

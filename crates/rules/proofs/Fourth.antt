@@ -18,11 +18,11 @@ found k n [] = refl
 found k zero (r ∷ p) = ⊎-elim (λ (y : k (r ∷ p) ≡ true). rw (y, y)) (λ (m : k (r ∷ p) ≡ false). rw m (found k zero p)) (decide (k (r ∷ p)))
 found k (suc n) (r ∷ p) = ⊎-elim (λ (y : k (r ∷ p) ≡ true). rw y (found k n p)) (λ (m : k (r ∷ p) ≡ false). rw m (found k (suc n) p)) (decide (k (r ∷ p)))
 
-one : (C : Chip) (e : ℕ) (p : Past) → fourth C e p ≡ checkOf 8 e (λ _. C .tfaw) p
+one : (C : Chip) (e : ℕ) (p : Past) → fourth C e p ≡ checkOf edge 8 e (λ _. C .tfaw) p
 one C e [] = refl
 one C e (r ∷ p) = refl
 
 pub fourth-searches : (C : Chip) (e : ℕ) (p : Past) → edge (back (is Act) 3 p) ≤ e
-    → fourth C e (back (is Act) 3 p) ≡ lookBack 8 (asking (is Act) (λ _. C .tfaw)) e (back (is Act) 3 p)
+    → fourth C e (back (is Act) 3 p) ≡ lookBack edge 8 (asking (is Act) (λ _. C .tfaw)) e (back (is Act) 3 p)
 fourth-searches C e p late =
-    one C e (back (is Act) 3 p) ∙ ap (checkOf 8 e (λ _. C .tfaw)) (sym (found (is Act) 3 p)) ∙ sym (constant-latest-only 8 e (is Act) (C .tfaw) (back (is Act) 3 p) late)
+    one C e (back (is Act) 3 p) ∙ ap (checkOf edge 8 e (λ _. C .tfaw)) (sym (found (is Act) 3 p)) ∙ sym (constant-latest-only 8 e (is Act) (C .tfaw) (back (is Act) 3 p) late)

@@ -32,3 +32,4 @@ pub mod Sections
 pub mod Cuts
 pub mod Recordings
 pub mod Fourth
+pub mod Fifth

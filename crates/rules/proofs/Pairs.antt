@@ -22,6 +22,7 @@ use Rattle.rules.specs.Banks.{actOn, closes, shuts, isIdle, actNum, star
 use Rattle.rules.specs.Rules.{may, concerns, barred, demand, rule1, rule2, rule3, rule5, rule8, rule23, since, fourth}
 use Rattle.rules.proofs.Generic.{decide}
 use Rattle.rules.proofs.Events.{never, Greatest, greatest-is}
+use Rattle.rules.proofs.Starts.{start-none}
 use Rattle.rules.proofs.Sense.{partner-is}
 use Rattle.rules.proofs.Clean.{wantsAll}
 use Rattle.rules.proofs.Partners.{fine-broken, Latest, latest-sense, Lowest, lowest-sense, act-number, Fourth, fourth-is}
@@ -31,10 +32,6 @@ use Rattle.rules.proofs.Partners.{fine-broken, Latest, latest-sense, Lo
 -- "Rules 1, 2, 3, 23: needed and found 0"
 abbrev pub None : (needed found : ℕ) → Type 0
 None m f = (m ≡ 0) × (f ≡ 0)
-
-pub start-none : (C : Chip) → start C [] ≡ 0
-unfolding start
-start-none C = refl
 
 module _ (C : Chip) (r : Record) (p : Past) where
   abbrev e : ℕ

@@ -135,7 +135,7 @@ pub record Partner (asks : Past → ℕ) (e : ℕ) (p : Past) (partner needed fo
   pub last : (t : Past) → t ∈ p → partner < number t → asks t ≤ e - edge t
 
 pub partner-is :
-    (k : ℕ) (asks : Past → ℕ) (e : ℕ) (p : Past) (k′ n m f : ℕ) → lookBack k asks e p ≡ Broken k′ n m f → (k′ ≡ k) × Partner asks e p n m f
+    (k : ℕ) (asks : Past → ℕ) (e : ℕ) (p : Past) (k′ n m f : ℕ) → lookBack edge k asks e p ≡ Broken k′ n m f → (k′ ≡ k) × Partner asks e p n m f
 partner-is k asks e [] k′ n m f h = let z : _≡_ {A = ℕ} 0 1 = cc in absurd (omega arith)
 partner-is k asks e (r ∷ p) k′ n m f h = ⊎-elim
     (λ (y : ltb (e - edge (r ∷ p)) (asks (r ∷ p)) ≡ true).

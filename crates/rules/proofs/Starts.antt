@@ -1,6 +1,6 @@
 -- Precharge starts: of one bank they do not decrease, so the greatest start is that of the latest closing event.
 -- Assumes nothing.
-use Prim.Native.Nat.{ℕ, _+_, _≤_, _<_, max}
+use Prim.Native.Nat.{ℕ, _+_, _-_, _≤_, _<_, max}
 use native.Mathlib.Omega.{arith}
 use mathlib.Core.Path.{_≡_, refl}
 use mathlib.Core.Logic.{⊎-elim}
@@ -8,14 +8,16 @@ use mathlib.Core.Bool.{Bool, true, false, cond, _||_}
 use mathlib.Core.List.{[], _∷_, tail}
 use lib.Dec.{leb}
 use borrow.Author.Tests.{leb-true, le-leb}
+use Rattle.answers.specs.declared.Break.the-variants.{Fine}
 use Rattle.records.specs.declared.Record.{Record}
 use Rattle.records.specs.declared.Command.the-variants.{Pre, Rd, Wr}
 use Rattle.chip.specs.declared.Chip.{Chip}
-use Rattle.rules.specs.Past.{Past, edge, is, bankOf, _∈_, here, there, latest, greatest}
+use Rattle.rules.specs.Past.{Past, edge, number, is, bankOf, _∈_, here, there, latest, greatest}
 use Rattle.rules.specs.Registers.{al, cwl, wl, h, wr}
 use Rattle.rules.specs.Banks.{actOn, closes, touches, notClosing, start, seen}
-use Rattle.rules.proofs.Generic.{decide}
-use Rattle.rules.proofs.Events.{never, latest-is, latest-edge}
+use Rattle.rules.specs.Rules.{since}
+use Rattle.rules.proofs.Generic.{decide, short-fine}
+use Rattle.rules.proofs.Events.{never, event-some, latest-is, latest-edge, greatest-is}
 use Rattle.rules.proofs.Clean.{Clean, is-other, calm, clean-tail, clean-in}
 
 pub closes-touches : (b : ℕ) (s : Past) → closes b s ≡ true → touches b s ≡ true
@@ -44,6 +46,18 @@ module _ (C : Chip) where
   pub start-none : start C [] ≡ 0
   unfolding start
   start-none = refl
+
+  -- where the greatest start of a kind has its clocks, so has every start of it
+  pub since-kept : (kind : Past → Bool) (e : ℕ) (p : Past) → since C e (greatest kind (start C) p) ≡ Fine
+      → (s : Past) → s ∈ p → kind s ≡ true → C .trp ≤ e - start C s
+  since-kept kind e p h s i y = ⊎-elim
+      (λ w. never y (w .1 s i))
+      (λ w. omega (arith, enough (greatest kind (start C) p) (w .event) h, w .most s i y))
+      (greatest-is kind (start C) start-none p)
+    where
+      enough : (g : Past) → g ∈ p → since C e g ≡ Fine → C .trp ≤ e - start C g
+      enough [] j z = absurd (omega (arith, event-some j))
+      enough (q ∷ g) j z = short-fine 5 e (start C (q ∷ g)) (number (q ∷ g)) (C .trp) Fine z .0
 
   -- a precharge starts at its event or later
   pub start-after : (s : Past) → edge s ≤ start C s

@@ -20,7 +20,7 @@ use Rattle.kept.specs.Breaks as judge
 use Rattle.rules.specs.Past.{Past, edge, number, is, on, latest, back}
 use Rattle.rules.specs.Search.{orElse, lowest, short, Spacing, row}
 use Rattle.rules.specs.Rules.{r4, r6, r7, r9, r10, r11, r12r, r12w, r13, r14, r15, r16, r17, r18, r19, r20, r21, r22, rule5, rule8, rule23, spaced, since, fourth}
-use Rattle.rules.proofs.Generic.{decide, checkOf, Dominated, latest-only}
+use Rattle.rules.proofs.Generic.{decide, checkOf, Dominated, edge-reached, latest-only}
 use Rattle.rules.proofs.Events.{latest-is}
 use Rattle.rules.proofs.Clean.{is-other}
 use Rattle.rules.proofs.Dominate.{need10, need11, need13, need14, need19}
@@ -55,7 +55,7 @@ when-is true k e m rest = go (ltb (e - m .at) (m .need))
 pub also : (x : Bool) (k e : ℕ) (m : Mark) {R rest others : Break} → cond x (check k e m) Fine ≡ R → rest ≡ others → judge.whenIs x k e m rest ≡ orElse R others
 also x k e m {R} {rest} {others} p q = when-is x k e m rest ∙ (λ i. orElse (p i) (q i))
 
-check-mark : (k e : ℕ) (need : Past → ℕ) (s : Past) → check k e (mark need s) ≡ checkOf k e need s
+check-mark : (k e : ℕ) (need : Past → ℕ) (s : Past) → check k e (mark need s) ≡ checkOf edge k e need s
 check-mark k e need [] = rw (le-ltb (e - 0) 0 (omega arith))
 check-mark k e need (r ∷ p) = refl
 
@@ -82,10 +82,10 @@ spacingChecks C =
     ∷ spaced C r22 ∷ rule23 C ∷ []
 
 -- a rule whose past is dominated: the check of one mark
-pub row-agrees : (R : Spacing) (r : Record) (p : Past) → Dominated (R .from (r ∷ p)) (R .need) p
+pub row-agrees : (R : Spacing) (r : Record) (p : Past) → Dominated edge (R .from (r ∷ p)) (R .need) p
     → row R r p ≡ cond (R .to (r ∷ p)) (check (R .name) (edge (r ∷ p)) (mark (R .need) (latest (R .from (r ∷ p)) p))) Fine
 row-agrees R r p d = ap (λ b. cond (R .to (r ∷ p)) b Fine)
-    (latest-only (R .name) (edge (r ∷ p)) (R .from (r ∷ p)) (R .need) p (omega arith) d
+    (latest-only edge (R .name) (edge (r ∷ p)) (R .from (r ∷ p)) (R .need) p (edge-reached (R .need) (edge (r ∷ p)) p (omega arith)) d
     ∙ sym (check-mark (R .name) (edge (r ∷ p)) (R .need) (latest (R .from (r ∷ p)) p)))
 
 -- of all banks, or of one

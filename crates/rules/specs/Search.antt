@@ -23,10 +23,11 @@ lowest f (suc n) = orElse (lowest f n) (f n)
 abbrev pub short : (k e at num need : ℕ) → Break → Break
 short k e at num need otherwise = cond (ltb (e - at) need) (Broken k num need (e - at)) otherwise
 
--- rule k at the edge e: the latest event of p since which there are fewer clocks than it asks
-abbrev pub lookBack : ℕ → (Past → ℕ) → ℕ → Past → Break
-lookBack k asks e [] = Fine
-lookBack k asks e (r ∷ p) = short k e (edge (r ∷ p)) (number (r ∷ p)) (asks (r ∷ p)) (lookBack k asks e p)
+-- rule k at the edge e: the latest event of p since which there are fewer clocks than it asks. They are counted from the edge `from` it: its
+-- own, or its precharge start
+abbrev pub lookBack : (from : Past → ℕ) → ℕ → (Past → ℕ) → ℕ → Past → Break
+lookBack from k asks e [] = Fine
+lookBack from k asks e (r ∷ p) = short k e (from (r ∷ p)) (number (r ∷ p)) (asks (r ∷ p)) (lookBack from k asks e p)
 
 -- what a rule asks that speaks of some events only
 abbrev pub asking : (Past → Bool) → (Past → ℕ) → Past → ℕ
@@ -45,4 +46,4 @@ least k from to need = record { name = k; to = to; from = from; need = need }
 
 -- the spacing at the event r ∷ p
 abbrev pub row : Spacing → Record → Past → Break
-row R r p = cond (R .to (r ∷ p)) (lookBack (R .name) (asking (R .from (r ∷ p)) (R .need)) (edge (r ∷ p)) p) Fine
+row R r p = cond (R .to (r ∷ p)) (lookBack edge (R .name) (asking (R .from (r ∷ p)) (R .need)) (edge (r ∷ p)) p) Fine
