@@ -1,18 +1,18 @@
--- One answer for each public contract: the row at a place, the name and the meaning of a kind.
+-- One answer for each public contract: the row at a place, of a kind, and with its count.
 -- Assumes nothing.
 use Prim.Native.Nat.{ℕ}
 use mathlib.Core.Path.{_≡_}
 use mathlib.Core.List.{List}
 use Rattle.laws.proofs.Unique.{Unique, one-answer}
 use Rattle.glossary.specs.declared.Row.{Row}
-use Rattle.glossary.specs.Glossary.{rowOf, nameOf}
-use Rattle.glossary.specs.Meanings.{meaningOf}
+use Rattle.glossary.specs.declared.Line.{Line}
+use Rattle.glossary.specs.Glossary.{rowOf, placeOf, lineOf}
 
 pub row-unique : (place : ℕ) → Unique (λ (r : Row). r ≡ rowOf place)
 row-unique place = one-answer (rowOf place)
 
-pub name-unique : (kind : ℕ) → Unique (λ (r : List ℕ). r ≡ nameOf kind)
-name-unique kind = one-answer (nameOf kind)
+pub of-unique : (kind : ℕ) → Unique (λ (r : Row). r ≡ rowOf (placeOf kind))
+of-unique kind = one-answer (rowOf (placeOf kind))
 
-pub meaning-unique : (kind : ℕ) → Unique (λ (r : List ℕ). r ≡ meaningOf kind)
-meaning-unique kind = one-answer (meaningOf kind)
+pub line-unique : (place : ℕ) (counts : List ℕ) → Unique (λ (r : Line). r ≡ lineOf place counts)
+line-unique place counts = one-answer (lineOf place counts)

@@ -28,11 +28,11 @@ kind-by before r = refl
 -- ── One test ────────────────────────────────────────────────────────────────────────────────
 
 -- f at each number below n
-abbrev each : (n : ℕ) → (ℕ → Bool) → Bool
+abbrev pub each : (n : ℕ) → (ℕ → Bool) → Bool
 each zero f = true
 each (suc n) f = each n f && f n
 
-each-at : (n : ℕ) (f : ℕ → Bool) → each n f ≡ true → (k : ℕ) → k < n → f k ≡ true
+pub each-at : (n : ℕ) (f : ℕ → Bool) → each n f ≡ true → (k : ℕ) → k < n → f k ≡ true
 each-at zero f h k l = absurd (omega arith)
 each-at (suc n) f h k l = elim (ℕ-discrete k n) [
   | yes e ↦ subst (λ (m : ℕ). f m ≡ true) (sym e) (both (each n f) (f n) h .1)
@@ -71,7 +71,7 @@ right-at before now a pins l =
 -- ── What the rows say ───────────────────────────────────────────────────────────────────────
 
 -- behind the last place there is the last row again
-last-row : (i : ℕ) → 24 ≤ i → rowOf i ≡ rowOf 23
+pub last-row : (i : ℕ) → 24 ≤ i → rowOf i ≡ rowOf 23
 unfolding rowOf
 last-row i h = rw (le-ltb i 23 (omega arith))
 

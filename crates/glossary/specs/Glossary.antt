@@ -1,98 +1,91 @@
--- The rows by which a record is of a kind: 01, "Commands and the 25 rules", first paragraph, as a table.
+-- The rows by which a record is of a kind, with its name and its meaning: 01, "Commands and the 25 rules", first paragraph, as a table.
 -- Assumes nothing.
 use Prim.Native.Nat.{ℕ, zero, suc, _+_, _/_, _%_}
-use mathlib.Core.Bool.{Bool, cond, _&&_, _||_}
+use Prim.Native.String.{String}
+use mathlib.Core.Bool.{Bool, true, false, cond, _&&_, _||_}
 use mathlib.Core.List.{List, [], _∷_}
 use lib.Dec.{eqb, ltb}
 use lib.ListN.{getD}
 use Rattle.records.specs.declared.Record.{Record}
 use Rattle.records.specs.Command.{a10}
 use Rattle.glossary.specs.declared.Row.{Row}
+use Rattle.glossary.specs.declared.Line.{Line}
+use Rattle.glossary.specs.Text.{filled}
+
+-- ── The table ───────────────────────────────────────────────────────────────────────────────
 
 -- any level
 abbrev pub x : ℕ
 x = 2
 
-abbrev row : (kind before now cs ras cas we a10 : ℕ) → List ℕ
-row kind before now cs ras cas we a10 = kind ∷ before ∷ now ∷ cs ∷ ras ∷ cas ∷ we ∷ a10 ∷ []
-
--- The kind, CKE before and now, CS RAS CAS WE, A10. "0010 PRE (A10: all banks)", "0100 WR, 0101 RD (A10: auto precharge)", "0110 ZQ (A10:
--- long)"; "CKE falling with 0001 is SRE"; "CKE rising with NOP or DES is SRX"; "CKE staying low: pins ignored"; rule 1, "Any other CKE change"
-unfoldable pub rows : List (List ℕ)
-rows =
-    row 0 1 1 0 0 0 0 x
-    ∷ row 1 1 1 0 0 0 1 x
-    ∷ row 2 1 1 0 0 1 0 0
-    ∷ row 3 1 1 0 0 1 0 1
-    ∷ row 4 1 1 0 0 1 1 x
-    ∷ row 5 1 1 0 1 0 0 0
-    ∷ row 6 1 1 0 1 0 0 1
-    ∷ row 7 1 1 0 1 0 1 0
-    ∷ row 8 1 1 0 1 0 1 1
-    ∷ row 9 1 1 0 1 1 0 1
-    ∷ row 10 1 1 0 1 1 0 0
-    ∷ row 11 1 1 0 1 1 1 x
-    ∷ row 12 1 1 1 x x x x
-    ∷ row 13 1 0 0 0 0 1 x
-    ∷ row 14 0 1 0 1 1 1 x
-    ∷ row 14 0 1 1 x x x x
-    ∷ row 15 0 0 x x x x x
-    ∷ row 16 1 0 0 0 0 0 x
-    ∷ row 16 1 0 0 0 1 x x
-    ∷ row 16 1 0 0 1 x x x
-    ∷ row 16 1 0 1 x x x x
-    ∷ row 16 0 1 0 0 x x x
-    ∷ row 16 0 1 0 1 0 x x
-    ∷ row 16 0 1 0 1 1 0 x
-    ∷ []
-
--- as the code answers it
-abbrev pub rowIn : List ℕ → Row
-rowIn w = record {
-  kind = getD w 0 0;
-  before = getD w 1 0;
-  now = getD w 2 0;
-  cs = getD w 3 0;
-  ras = getD w 4 0;
-  cas = getD w 5 0;
-  we = getD w 6 0;
-  a10 = getD w 7 0;
+abbrev row : (kind : ℕ) (name : String) (before now cs ras cas we a10 : ℕ) (meaning : String) → Row
+row kind name before now cs ras cas we a10 meaning = record {
+  kind = kind;
+  name = filled 9 name;
+  levels = before ∷ now ∷ cs ∷ ras ∷ cas ∷ we ∷ a10 ∷ [];
+  meaning = filled 52 meaning;
 }
+
+-- The kind, its name, CKE before and now, CS RAS CAS WE, A10, what it means. "0010 PRE (A10: all banks)", "0100 WR, 0101 RD (A10: auto
+-- precharge)", "0110 ZQ (A10: long)"; "CKE falling with 0001 is SRE"; "CKE rising with NOP or DES is SRX"; "CKE staying low: pins ignored";
+-- rule 1, "Any other CKE change"
+unfoldable pub rows : List Row
+rows =
+    row 0 "MRS" 1 1 0 0 0 0 x "writes the mode register that BA names"
+    ∷ row 1 "REF" 1 1 0 0 0 1 x "refresh"
+    ∷ row 2 "PRE" 1 1 0 0 1 0 0 "precharge of one bank"
+    ∷ row 3 "PREA" 1 1 0 0 1 0 1 "precharge of all banks"
+    ∷ row 4 "ACT" 1 1 0 0 1 1 x "opens a row of a bank"
+    ∷ row 5 "WR" 1 1 0 1 0 0 0 "write"
+    ∷ row 6 "WRA" 1 1 0 1 0 0 1 "write with auto precharge"
+    ∷ row 7 "RD" 1 1 0 1 0 1 0 "read"
+    ∷ row 8 "RDA" 1 1 0 1 0 1 1 "read with auto precharge"
+    ∷ row 9 "ZQCL" 1 1 0 1 1 0 1 "long ZQ calibration"
+    ∷ row 10 "ZQCS" 1 1 0 1 1 0 0 "short ZQ calibration"
+    ∷ row 11 "NOP" 1 1 0 1 1 1 x "no operation"
+    ∷ row 12 "DES" 1 1 1 x x x x "deselected"
+    ∷ row 13 "SRE" 1 0 0 0 0 1 x "self-refresh entry: CKE falls with the pins of a REF"
+    ∷ row 14 "SRX" 0 1 0 1 1 1 x "self-refresh exit: CKE rises with a NOP or a DES"
+    ∷ row 14 "SRX" 0 1 1 x x x x "self-refresh exit: CKE rises with a NOP or a DES"
+    ∷ row 15 "IGNORED" 0 0 x x x x x "CKE stays low: the pins are ignored"
+    ∷ row 16 "FORBIDDEN" 1 0 0 0 0 0 x "any other CKE change: rule 1"
+    ∷ row 16 "FORBIDDEN" 1 0 0 0 1 x x "any other CKE change: rule 1"
+    ∷ row 16 "FORBIDDEN" 1 0 0 1 x x x "any other CKE change: rule 1"
+    ∷ row 16 "FORBIDDEN" 1 0 1 x x x x "any other CKE change: rule 1"
+    ∷ row 16 "FORBIDDEN" 0 1 0 0 x x x "any other CKE change: rule 1"
+    ∷ row 16 "FORBIDDEN" 0 1 0 1 0 x x "any other CKE change: rule 1"
+    ∷ row 16 "FORBIDDEN" 0 1 0 1 1 0 x "any other CKE change: rule 1"
+    ∷ []
 
 -- a place, or the last one
 abbrev pub within : (most : ℕ) → ℕ → ℕ
 within most i = cond (ltb i most) i most
 
+-- no row
+abbrev pub blank : Row
+blank = record { kind = 0; name = []; levels = []; meaning = [] }
+
 unfoldable pub rowOf : (place : ℕ) → Row
-rowOf i = rowIn (getD rows (within 23 i) [])
+rowOf i = getD rows (within 23 i) blank
 
--- ── Names ─────────────────────────────────────────────────────────────────────────────────
+-- the first of n places from i on whose row is of the kind; the place behind them if there is none
+abbrev pub placeFrom : (n i kind : ℕ) → ℕ
+placeFrom zero i k = i
+placeFrom (suc n) i k = cond (eqb (rowOf i .kind) k) i (placeFrom n (i + 1) k)
 
--- in ASCII, by kind, filled up with spaces: MRS, REF, PRE, PREA (all banks), ACT, WR, WRA, RD, RDA (auto precharge), ZQCL (long), ZQCS (short),
--- NOP, DES, SRE, SRX, IGNORED (pins, while CKE is low), FORBIDDEN (change of CKE)
-unfoldable pub names : List (List ℕ)
-names =
-    (77 ∷ 82 ∷ 83 ∷ 32 ∷ 32 ∷ 32 ∷ 32 ∷ 32 ∷ 32 ∷ [])
-    ∷ (82 ∷ 69 ∷ 70 ∷ 32 ∷ 32 ∷ 32 ∷ 32 ∷ 32 ∷ 32 ∷ [])
-    ∷ (80 ∷ 82 ∷ 69 ∷ 32 ∷ 32 ∷ 32 ∷ 32 ∷ 32 ∷ 32 ∷ [])
-    ∷ (80 ∷ 82 ∷ 69 ∷ 65 ∷ 32 ∷ 32 ∷ 32 ∷ 32 ∷ 32 ∷ [])
-    ∷ (65 ∷ 67 ∷ 84 ∷ 32 ∷ 32 ∷ 32 ∷ 32 ∷ 32 ∷ 32 ∷ [])
-    ∷ (87 ∷ 82 ∷ 32 ∷ 32 ∷ 32 ∷ 32 ∷ 32 ∷ 32 ∷ 32 ∷ [])
-    ∷ (87 ∷ 82 ∷ 65 ∷ 32 ∷ 32 ∷ 32 ∷ 32 ∷ 32 ∷ 32 ∷ [])
-    ∷ (82 ∷ 68 ∷ 32 ∷ 32 ∷ 32 ∷ 32 ∷ 32 ∷ 32 ∷ 32 ∷ [])
-    ∷ (82 ∷ 68 ∷ 65 ∷ 32 ∷ 32 ∷ 32 ∷ 32 ∷ 32 ∷ 32 ∷ [])
-    ∷ (90 ∷ 81 ∷ 67 ∷ 76 ∷ 32 ∷ 32 ∷ 32 ∷ 32 ∷ 32 ∷ [])
-    ∷ (90 ∷ 81 ∷ 67 ∷ 83 ∷ 32 ∷ 32 ∷ 32 ∷ 32 ∷ 32 ∷ [])
-    ∷ (78 ∷ 79 ∷ 80 ∷ 32 ∷ 32 ∷ 32 ∷ 32 ∷ 32 ∷ 32 ∷ [])
-    ∷ (68 ∷ 69 ∷ 83 ∷ 32 ∷ 32 ∷ 32 ∷ 32 ∷ 32 ∷ 32 ∷ [])
-    ∷ (83 ∷ 82 ∷ 69 ∷ 32 ∷ 32 ∷ 32 ∷ 32 ∷ 32 ∷ 32 ∷ [])
-    ∷ (83 ∷ 82 ∷ 88 ∷ 32 ∷ 32 ∷ 32 ∷ 32 ∷ 32 ∷ 32 ∷ [])
-    ∷ (73 ∷ 71 ∷ 78 ∷ 79 ∷ 82 ∷ 69 ∷ 68 ∷ 32 ∷ 32 ∷ [])
-    ∷ (70 ∷ 79 ∷ 82 ∷ 66 ∷ 73 ∷ 68 ∷ 68 ∷ 69 ∷ 78 ∷ [])
-    ∷ []
+-- the place of the first row of a kind; the last place if there is none
+unfoldable pub placeOf : (kind : ℕ) → ℕ
+placeOf k = placeFrom 23 0 k
 
-unfoldable pub nameOf : (kind : ℕ) → List ℕ
-nameOf k = getD names (within 16 k) []
+-- ── A row as a report prints it ─────────────────────────────────────────────────────────────
+
+-- the count of a kind in a tally; there are seventeen
+abbrev pub countIn : (counts : List ℕ) (kind : ℕ) → ℕ
+countIn counts k = cond (ltb k 17) (getD counts k 0) 0
+
+-- with the count of its own kind
+unfoldable pub lineOf : (place : ℕ) (counts : List ℕ) → Line
+lineOf i counts = record { row = rowOf i; first = eqb (placeOf (rowOf i .kind)) i; count = countIn counts (rowOf i .kind) }
 
 -- ── Which rows a record shows ───────────────────────────────────────────────────────────────
 
@@ -100,14 +93,18 @@ nameOf k = getD names (within 16 k) []
 abbrev pub fits : (row pin : ℕ) → Bool
 fits l p = eqb l x || eqb l p
 
+abbrev pub allFit : (row pins : List ℕ) → Bool
+allFit (l ∷ ls) (p ∷ ps) = fits l p && allFit ls ps
+allFit [] ps = true
+allFit (l ∷ ls) [] = false
+
 abbrev pub level : Bool → ℕ
 level b = cond b 1 0
 
 -- CS, RAS, CAS, WE are the bits of the pins, in this order
 abbrev pub showsBy : Row → (before now : Bool) (pins : ℕ) (a10 : Bool) → Bool
 showsBy w before now pins a =
-    fits (w .before) (level before) && (fits (w .now) (level now)
-    && (fits (w .cs) (pins / 8 % 2) && (fits (w .ras) (pins / 4 % 2) && (fits (w .cas) (pins / 2 % 2) && (fits (w .we) (pins % 2) && fits (w .a10) (level a))))))
+    allFit (w .levels) (level before ∷ level now ∷ pins / 8 % 2 ∷ pins / 4 % 2 ∷ pins / 2 % 2 ∷ pins % 2 ∷ level a ∷ [])
 
 -- the record, after the CKE level before it, shows the row
 abbrev pub shows : Row → (before : Bool) → Record → Bool

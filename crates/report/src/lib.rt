@@ -1,5 +1,5 @@
 // What the report on a lot's files prints, for a person or for another program. What is written to standard
-// output is under no contract; which count stands in a row, and how a level is shown, is.
+// output is under no contract; how a level is shown is, and the rows with their counts are the glossary's.
 mod ending;
 pub mod person;
 mod text;

@@ -13,14 +13,11 @@ use crate::text::say_hex;
 use crate::text::word;
 use crate::words;
 use answers::Verdict;
+use glossary::Line;
 use glossary::Row;
 use header::Header;
 use judge::Closed;
 use tally::Tally;
-ghost use mathlib.Core.Path.{_≡_};
-ghost use mathlib.Core.Bool.{cond};
-ghost use lib.Dec.{ltb};
-ghost use lib.ListN.{getD};
 
 pub(crate) fn part(h: Header) {
     say(b"Part: bin ", h.bin as u64);
@@ -69,77 +66,67 @@ pub fn report(t: Tally, count: u64, named: Named, c: Closed, header: [u8; 6]) {
 fn commands(counts: [u64; 17]) {
     put(b"\nRecords of each command, by CKE before and now, the pins and A10 (x: any level)\n");
     put(b"  command    CKE  CS RAS CAS WE  A10  records  meaning\n");
-    let mut last: u64 = 17;
     let mut i: usize = 0;
     while i < 24 {
-        let w = glossary::row_at(i);
-        row(w, w.kind != last, counts);
-        last = w.kind;
+        let l = glossary::line_at(i, counts);
+        line(l);
         i += 1;
     }
 }
 
-fn row(w: Row, first: bool, counts: [u64; 17]) {
-    if first {
-        named_row(w, counts);
+fn line(l: Line) {
+    if l.first {
+        first_line(l);
     } else {
         put(b"             ");
-        levels(w);
+        levels(l.row);
         put(b"\n");
     }
 }
 
-// The row that names its kind.
-fn named_row(w: Row, counts: [u64; 17]) {
+// The line that names its kind.
+fn first_line(l: Line) {
+    let w = l.row;
+    let command = w.name;
+    let meaning = w.meaning;
     put(b"  ");
-    let kind = glossary::name_of(w.kind as usize);
-    put(&kind);
+    put(&command);
     put(b"  ");
     levels(w);
     put(b"   ");
-    column(count_at(counts, w.kind));
+    column(l.count);
     put(b"  ");
-    let meaning = glossary::meaning_of(w.kind as usize);
     word(&meaning);
     put(b"\n");
 }
 
+// Under the heads CKE, CS, RAS, CAS, WE, A10.
 fn levels(w: Row) {
+    let l = w.levels;
     let text = [
-        level(w.before),
+        level(l[0]),
         b' ',
-        level(w.now),
-        b' ',
-        b' ',
-        level(w.cs),
+        level(l[1]),
         b' ',
         b' ',
-        level(w.ras),
+        level(l[2]),
         b' ',
         b' ',
-        b' ',
-        level(w.cas),
+        level(l[3]),
         b' ',
         b' ',
         b' ',
-        level(w.we),
+        level(l[4]),
         b' ',
         b' ',
         b' ',
-        level(w.a10),
+        level(l[5]),
+        b' ',
+        b' ',
+        b' ',
+        level(l[6]),
     ];
     put(&text);
-}
-
-// The count of a row's own kind.
-pub(crate) fn count_at(counts: [u64; 17], kind: u64) -> u64
-    ensures { λ r. ⌜ r ≡ cond (ltb kind 17) (getD counts kind 0) 0 ⌝ }
-{
-    if kind < 17 {
-        let k = kind as usize;
-        return counts[k];
-    }
-    0
 }
 
 // ── The verdict ───────────────────────────────────────────────────────────────────────────
@@ -193,8 +180,9 @@ fn record(f: Found, number: u64, what: &[u8]) {
         return;
     }
     put(b", ");
-    let kind = glossary::name_of(f.kind);
-    word(&kind);
+    let w = glossary::row_of(f.kind as u64);
+    let command = w.name;
+    word(&command);
     say(b" at edge ", f.edge);
     say(b", bank ", f.bank);
     say_hex(b", address ", f.a);

@@ -2,16 +2,16 @@
 use crate::Found;
 use crate::Named;
 use crate::ending::debt;
-use crate::person::count_at;
 use crate::text::level;
 use crate::text::name;
-use crate::text::number;
 use crate::text::put;
+use crate::text::say;
 use crate::text::say_hex;
 use crate::text::value;
 use crate::text::word;
 use answers::Shown;
 use answers::Verdict;
+use glossary::Line;
 use glossary::Row;
 use header::Header;
 use judge::Closed;
@@ -56,43 +56,43 @@ pub fn report(t: Tally, count: u64, named: Named, c: Closed, header: [u8; 6]) {
 
 // A line for each row of the glossary, and a count for each kind.
 fn commands(counts: [u64; 17]) {
-    let mut last: u64 = 17;
     let mut i: usize = 0;
     while i < 24 {
-        let w = glossary::row_at(i);
-        row(w, w.kind != last, counts);
-        last = w.kind;
+        let l = glossary::line_at(i, counts);
+        line(l);
         i += 1;
     }
 }
 
 // CKE before and now, CS, RAS, CAS, WE, A10.
-fn row(w: Row, first: bool, counts: [u64; 17]) {
-    if first {
+fn line(l: Line) {
+    let w = l.row;
+    if l.first {
         put(b"count_");
-        kind(w.kind);
-        number(count_at(counts, w.kind));
+        command(w);
+        say(b" ", l.count);
         put(b"\n");
     }
     put(b"levels_");
-    kind(w.kind);
+    command(w);
+    let x = w.levels;
     let levels = [
-        level(w.before),
-        level(w.now),
-        level(w.cs),
-        level(w.ras),
-        level(w.cas),
-        level(w.we),
-        level(w.a10),
+        b' ',
+        level(x[0]),
+        level(x[1]),
+        level(x[2]),
+        level(x[3]),
+        level(x[4]),
+        level(x[5]),
+        level(x[6]),
         b'\n',
     ];
     put(&levels);
 }
 
-fn kind(k: u64) {
-    let text = glossary::name_of(k as usize);
+fn command(w: Row) {
+    let text = w.name;
     word(&text);
-    put(b" ");
 }
 
 // ── The verdict ───────────────────────────────────────────────────────────────────────────
@@ -131,8 +131,7 @@ fn record(what: &[u8], number: u64, f: Found) {
     part_of(what, b"_edge", f.edge);
     put(what);
     put(b"_command ");
-    let text = glossary::name_of(f.kind);
-    word(&text);
+    command(glossary::row_of(f.kind as u64));
     put(b"\n");
     part_of(what, b"_bank", f.bank);
     put(what);

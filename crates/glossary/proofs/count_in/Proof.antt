@@ -1,9 +1,9 @@
 -- The count at the kind's own place.
 -- Assumes nothing.
-use borrow.Author.Tests.{lt-ltb, le-ltb}
 use borrow.Author.Needs.{needs}
-use Rattle.report.proofs.person.count_at.Statement.{statement}
-use Rattle.report.proofs.person.count_at.Tie as tie
+use borrow.Author.Tests.{lt-ltb, le-ltb}
+use Rattle.glossary.proofs.count_in.Statement.{statement}
+use Rattle.glossary.proofs.count_in.Tie as tie
 
 mul-result : tie.Need-mul-result
 mul-result c = search needs
@@ -17,5 +17,5 @@ returns c = rw (lt-ltb _ _ (c .if1 .taken))
 returns-2 : tie.Need-returns-2
 returns-2 c = rw (le-ltb _ _ (c .if1 .left))
 
-pub count-at-spec : {M : Type 1} → statement M
-count-at-spec = tie.close (tie.spec mul-result array-read-result returns returns-2)
+pub count-in-spec : {M : Type 1} → statement M
+count-in-spec = tie.close (tie.spec mul-result array-read-result returns returns-2)
