@@ -23,8 +23,9 @@ use Rattle.answers.specs.declared.Verdict.{Verdict}
 use Rattle.kept.specs.Breaks.{orElse, statusOf, lowest, rule2, rule3, waits, spacings}
 use Rattle.kept.specs.Marks.{needing, spaced}
 use Rattle.judge.specs.Calls.{startOf, freshShared, freshState, sectionOf, verdictOf, closedOf, notClosed, closeOf}
-use Rattle.judge.specs.Deadlines.{better, soonest, sooner, next24, next25, nextLate}
-use Rattle.judge.specs.Next.{regsNext, writtenNext, startNow, keptNext, keptShut, banksNext, due, duesNext, actsNext, readNext, wroteNext, shutNext, restsNext, debtNext, markedNext, sharedNext}
+use Rattle.next.specs.Late.{better, soonest, sooner}
+use Rattle.judge.specs.Deadlines.{next24, next25, nextLate}
+use Rattle.next.specs.Next.{regsNext, writtenNext, startNow, keptNext, keptShut, banksNext, due, duesNext, actsNext, readNext, wroteNext, shutNext, restsNext, debtNext, markedNext, sharedNext}
 use Rattle.judge.specs.Ranges.{lastEdge, banksOk, inRange}
 use Rattle.judge.specs.Step.{saysBy, turnOf, turnIn, movedOf, stoppedOf, stepOf, soFar}
 use Rattle.rules.specs.Past.{edge}

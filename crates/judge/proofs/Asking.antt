@@ -14,7 +14,7 @@ use Rattle.chip.specs.Latencies.{alOf, clOf, cwlOf, wrOf, hOf, bOf}
 use Rattle.judge.specs.declared.Asks.{Asks}
 use Rattle.kept.specs.declared.Read.{Read}
 use Rattle.kept.specs.declared.Wrote.{Wrote}
-use Rattle.judge.specs.Next.{need4, need10, need11, startNow}
+use Rattle.next.specs.Next.{need4, need10, need11, startNow}
 use Rattle.judge.specs.Easy.{asksOf, Asked}
 
 -- only A12 of an address counts

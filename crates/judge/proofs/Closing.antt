@@ -8,11 +8,12 @@ use borrow.Author.Tests.{eq-eqb, ne-eqb, lt-ltb, le-ltb}
 use Rattle.answers.specs.declared.Verdict.{Verdict}
 use Rattle.chip.specs.declared.Chip.{Chip}
 use Rattle.kept.specs.Marks.{empty}
-use Rattle.judge.specs.declared.Late.{Late}
-use Rattle.judge.specs.declared.Pick.{Pick}
+use Rattle.next.specs.declared.Late.{Late}
+use Rattle.next.specs.declared.Pick.{Pick}
 use Rattle.judge.specs.declared.State.{State}
-use Rattle.judge.specs.Deadlines.{why, sooner, late24, late25, soonest, next24, next25, nextLate}
-use Rattle.judge.specs.Step.{verdictAt, cleanAt}
+use Rattle.next.specs.Late.{why, sooner, late24, late25, soonest}
+use Rattle.judge.specs.Deadlines.{next24, next25, nextLate}
+use Rattle.next.specs.Said.{verdictAt, cleanAt}
 use Rattle.judge.specs.Calls.{verdictOf}
 
 module _ (C : Chip) (s : State) (t : ℕ) where

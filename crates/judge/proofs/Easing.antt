@@ -21,18 +21,20 @@ use Rattle.records.specs.Command.{rank, isA, bankIn}
 use Rattle.chip.specs.declared.Chip.{Chip}
 use Rattle.kept.specs.declared.Kept.{Kept}
 use Rattle.kept.specs.declared.Debt.{Debt}
-use Rattle.judge.specs.declared.Late.{Late}
+use Rattle.next.specs.declared.Late.{Late}
 use Rattle.kept.specs.declared.Mark.{Mark}
-use Rattle.judge.specs.declared.Pick.{Pick}
+use Rattle.next.specs.declared.Pick.{Pick}
 use Rattle.kept.specs.declared.Shared.{Shared}
 use Rattle.judge.specs.declared.State.{State}
 use Rattle.kept.specs.Marks.{needing}
-use Rattle.judge.specs.Next.{debtNext, passed, stamped, sharedNext, markedNext}
+use Rattle.next.specs.Next.{debtNext, passed, stamped, sharedNext, markedNext}
 use Rattle.kept.specs.Breaks.{orElse}
-use Rattle.judge.specs.Deadlines.{better, soonest, sooner, late24, late25, owing}
+use Rattle.next.specs.Late.{better, soonest, sooner, late24, late25}
+use Rattle.judge.specs.Deadlines.{owing}
 use Rattle.judge.specs.Easy.{Past, Free, Quiet, Clear, until, passedBy}
 use Rattle.judge.specs.Ranges.{farEdge}
-use Rattle.judge.specs.Step.{noVerdict, saysBy, verdictAt}
+use Rattle.next.specs.Said.{noVerdict, verdictAt}
+use Rattle.judge.specs.Step.{saysBy}
 use Rattle.kept.proofs.Both.{both, neither}
 
 -- ── Due edges ───────────────────────────────────────────────────────────────────────────────

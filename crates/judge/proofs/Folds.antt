@@ -21,12 +21,13 @@ use Rattle.kept.specs.declared.Kept.{Kept}
 use Rattle.kept.specs.declared.Shared.{Shared}
 use Rattle.kept.specs.Marks.{empty}
 use Rattle.kept.specs.Breaks.{speaksOfAll, barredAt, lowest, rule2}
-use Rattle.judge.specs.declared.Late.{Late}
-use Rattle.judge.specs.declared.Pick.{Pick}
+use Rattle.next.specs.declared.Late.{Late}
+use Rattle.next.specs.declared.Pick.{Pick}
 use Rattle.judge.specs.declared.State.{State}
 use Rattle.judge.specs.declared.Turn.{Turn}
-use Rattle.judge.specs.Next.{Calm, preAll, keptShut, keptNext, due, banksNext, duesNext}
-use Rattle.judge.specs.Deadlines.{late24, soonest, next24}
+use Rattle.next.specs.Next.{Calm, preAll, keptShut, keptNext, due, banksNext, duesNext}
+use Rattle.next.specs.Late.{late24, soonest}
+use Rattle.judge.specs.Deadlines.{next24}
 use Rattle.judge.specs.Step.{turnOf, turnIn, commandIn, ownBank, movedOf, stoppedOf, stepOf, foldOf}
 use Rattle.judge.specs.Ranges.{limit, lastEdge, farEdge, Small, Ranged, Ready, NearBanks}
 use Rattle.judge.proofs.Sections.{at-step, at-end, step-at}

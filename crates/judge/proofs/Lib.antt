@@ -1,4 +1,3 @@
-pub mod Marking
 pub mod Sections
 pub mod Ranging
 pub mod Folds

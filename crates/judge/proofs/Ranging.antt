@@ -31,12 +31,14 @@ use Rattle.kept.specs.declared.Kept.{Kept}
 use Rattle.kept.specs.declared.Shared.{Shared}
 use Rattle.kept.specs.Marks.{empty}
 use Rattle.kept.specs.Breaks.{orElse, joined, rule2, rule3, spacings}
-use Rattle.judge.specs.declared.Late.{Late}
-use Rattle.judge.specs.declared.Pick.{Pick}
+use Rattle.next.specs.declared.Late.{Late}
+use Rattle.next.specs.declared.Pick.{Pick}
 use Rattle.judge.specs.declared.State.{State}
-use Rattle.judge.specs.Next.{keptNext, keptShut, banksNext, debtNext, markedNext, sharedNext, preAll, passed}
-use Rattle.judge.specs.Deadlines.{why, sooner, owing, late25, next24, better, soonest}
-use Rattle.judge.specs.Step.{say, verdictAt, lateAt, saysBy, isClean, turnOf, turnIn, movedOf, stoppedOf, stepOf, commandIn, ownBank}
+use Rattle.next.specs.Next.{keptNext, keptShut, banksNext, debtNext, markedNext, sharedNext, preAll, passed}
+use Rattle.next.specs.Late.{why, sooner, late25, better, soonest}
+use Rattle.judge.specs.Deadlines.{owing, next24}
+use Rattle.next.specs.Said.{say, verdictAt, lateAt}
+use Rattle.judge.specs.Step.{saysBy, isClean, turnOf, turnIn, movedOf, stoppedOf, stepOf, commandIn, ownBank}
 use Rattle.judge.specs.Ranges.{limit, lastEdge, bankOk, banksOk, counted, inRange, Small, Ranged}
 
 -- ── From the test to the facts ──────────────────────────────────────────────────────────────

@@ -20,10 +20,12 @@ use Rattle.kept.specs.declared.Debt.{Debt}
 use Rattle.kept.specs.declared.Kept.{Kept}
 use Rattle.kept.specs.declared.Shared.{Shared}
 use Rattle.judge.specs.declared.State.{State}
-use Rattle.judge.specs.Next.{passed, preAll, keptNext, due, debtNext, regsNext, stamped, markedNext, sharedNext}
-use Rattle.judge.specs.Deadlines.{late25, next24}
+use Rattle.next.specs.Next.{passed, preAll, keptNext, due, debtNext, regsNext, stamped, markedNext, sharedNext}
+use Rattle.next.specs.Late.{late25}
+use Rattle.judge.specs.Deadlines.{next24}
 use Rattle.judge.specs.Easy.{Asked, Free, Quiet, Clear, until, rankIf, passedBy, passedAll, holding}
-use Rattle.judge.specs.Step.{noVerdict, turnOf, turnIn, commandIn, ownBank, stepOf}
+use Rattle.next.specs.Said.{noVerdict}
+use Rattle.judge.specs.Step.{turnOf, turnIn, commandIn, ownBank, stepOf}
 use Rattle.judge.proofs.Easing.{soonest-none, says-nothing}
 use Rattle.kept.proofs.Finding.{breaksOf}
 use Rattle.judge.proofs.Folds.{Folding, moves-one}

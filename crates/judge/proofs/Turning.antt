@@ -25,7 +25,7 @@ use Rattle.kept.specs.declared.Rests.{Rests}
 use Rattle.kept.specs.declared.Shared.{Shared}
 use Rattle.judge.specs.declared.State.{State}
 use Rattle.kept.specs.Marks.{empty}
-use Rattle.judge.specs.Next.{mark, passed, preAll, keptShut, keptNext, startNow, due, debtNext, regsNext, restsNext, stamped, actsNext, writtenNext, readNext, wroteNext, shutNext, markedNext}
+use Rattle.next.specs.Next.{mark, passed, preAll, keptShut, keptNext, startNow, due, debtNext, regsNext, restsNext, stamped, actsNext, writtenNext, readNext, wroteNext, shutNext, markedNext}
 use Rattle.kept.specs.Fine.{Unhindered}
 use Rattle.judge.specs.Easy.{Asked, Free, Quiet, Clear, until, rankIf, passedBy, passedAll, holding}
 use Rattle.judge.specs.Ranges.{farEdge, Ready}

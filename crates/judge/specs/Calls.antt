@@ -29,8 +29,10 @@ use Rattle.judge.specs.declared.Opened.{Opened}
 use Rattle.judge.specs.declared.Taken.{Taken}
 use Rattle.judge.specs.declared.Closed.{Closed}
 use Rattle.judge.specs.declared.Register.{Register}
-use Rattle.judge.specs.Deadlines.{why, nextLate}
-use Rattle.judge.specs.Step.{noVerdict, verdictAt, isClean, foldOf, cleanAt, soFar}
+use Rattle.next.specs.Late.{why}
+use Rattle.judge.specs.Deadlines.{nextLate}
+use Rattle.next.specs.Said.{noVerdict, verdictAt, cleanAt}
+use Rattle.judge.specs.Step.{isClean, foldOf, soFar}
 use Rattle.judge.specs.Ranges.{limit, lastEdge, inRange}
 
 -- ── Opening ─────────────────────────────────────────────────────────────────────────────────

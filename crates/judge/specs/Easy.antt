@@ -18,7 +18,7 @@ use Rattle.kept.specs.declared.Mark.{Mark}
 use Rattle.judge.specs.declared.Asks.{Asks}
 use Rattle.kept.specs.declared.Shared.{Shared}
 use Rattle.judge.specs.declared.State.{State}
-use Rattle.judge.specs.Next.{need4, need10, need11, passed}
+use Rattle.next.specs.Next.{need4, need10, need11, passed}
 use Rattle.kept.specs.Fine.{met, Unhindered}
 use Rattle.judge.specs.Ranges.{farEdge}
 

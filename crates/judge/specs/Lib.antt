@@ -1,4 +1,3 @@
-pub mod Next
 pub mod Easy
 pub mod Deadlines
 pub mod Step

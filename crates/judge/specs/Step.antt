@@ -16,32 +16,13 @@ use Rattle.kept.specs.declared.Kept.{Kept}
 use Rattle.kept.specs.declared.Shared.{Shared}
 use Rattle.kept.specs.Marks.{empty}
 use Rattle.kept.specs.Breaks.{orElse, joined, rule2, rule3, spacings}
-use Rattle.judge.specs.declared.Late.{Late}
+use Rattle.next.specs.declared.Late.{Late}
 use Rattle.judge.specs.declared.State.{State}
 use Rattle.judge.specs.declared.Turn.{Turn}
-use Rattle.judge.specs.Next.{banksNext, duesNext, sharedNext}
-use Rattle.judge.specs.Deadlines.{why, sooner, late25, next24, owing}
-
--- nothing is broken yet
-abbrev pub noVerdict : Verdict
-noVerdict = record { outcome = 0; rule = 0; number = 0; partner = 0; edge = 0; needed = 0; found = 0 }
-
-abbrev pub brokenAt : (edge num rule partner needed found : ℕ) → Verdict
-brokenAt e n k p m f = record { outcome = 1; rule = k; number = n; partner = p; edge = e; needed = m; found = f }
-
--- a break at an edge with the number of its record, 0 for none; Fine: nothing yet
-abbrev pub verdictAt : (edge num : ℕ) → Break → Verdict
-verdictAt e n Fine = noVerdict
-verdictAt e n (Broken k p m f) = brokenAt e n k p m f
-
--- at edge e: what its record breaks; else the deadline that passes, with no record
-abbrev pub say : (edge num : ℕ) → (own deadline : Break) → Verdict
-say e n (Broken k p m f) d = brokenAt e n k p m f
-say e n Fine d = verdictAt e 0 d
-
--- a deadline that passes at edge e itself
-abbrev pub lateAt : (edge : ℕ) → Late → Break
-lateAt e x = cond (eqb (x .at) e) (why x) Fine
+use Rattle.next.specs.Next.{banksNext, duesNext, sharedNext}
+use Rattle.next.specs.Said.{verdictAt, say, lateAt, cleanAt}
+use Rattle.next.specs.Late.{why, sooner, late25}
+use Rattle.judge.specs.Deadlines.{next24, owing}
 
 -- of the gap before a record and of its edge e: a deadline that passes before e; else what the record, number n, breaks; else a
 -- deadline that passes at e, where so much is owed after the record
@@ -111,10 +92,6 @@ stepOf C s r =
 abbrev pub foldOf : Chip → State → List Record → State
 foldOf C s [] = s
 foldOf C s (r ∷ rs) = foldOf C (stepOf C s r) rs
-
--- "Clean: rule, partner, needed, found are 0, record is the number of records, edge is the end edge"
-abbrev pub cleanAt : (count end : ℕ) → Verdict
-cleanAt n t = record { outcome = 0; rule = 0; number = n; partner = 0; edge = t; needed = 0; found = 0 }
 
 -- "After each section the verdict so far is as if closed at the last record's edge so far"
 unfoldable pub soFar : State → Verdict

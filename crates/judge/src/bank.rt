@@ -7,12 +7,13 @@ use chip::Chip;
 use chip::Regs;
 use kept::Kept;
 use kept::Mark;
+use next::shut_by;
 use records::Command;
 use records::Record;
 ghost use mathlib.Core.Path.{_≡_};
 ghost use Prim.Native.Nat.{_≤_};
 ghost use Rattle.records.specs.declared.Command.the-variants.{Act, Rd, Wr};
-ghost use Rattle.judge.specs.Next as next;
+ghost use Rattle.next.specs.Next as next;
 ghost use Rattle.judge.specs.Easy.{Asked};
 ghost use Rattle.judge.specs.Ranges.{Small, farEdge};
 
@@ -56,27 +57,6 @@ pub(crate) fn kept_next(chip: Chip, c: Command, r: Record, e: u64, n: u32, g: Re
     }
 }
 
-// A bank after a PRE of all.
-pub(crate) fn kept_shut(chip: Chip, e: u64, n: u32, k: Kept) -> Kept
-    ensures { λ x. ⌜ x ≡ next.keptShut chip e n k ⌝ }
-{
-    shut_by(k, e, n, chip.trp)
-}
-
-// The bank with a precharge that starts at edge f.
-fn shut_by(k: Kept, f: u64, n: u32, need: u32) -> Kept
-    ensures { λ x. ⌜ x ≡ next.shutBy k f n need ⌝ }
-{
-    let mut x = k;
-    let shut = Mark {
-        at: f,
-        num: n,
-        need: need,
-    };
-    x.shut = shut;
-    x
-}
-
 // w: what the registers g ask for.
 pub(crate) fn acted(chip: Chip, w: Asks, r: Record, e: u64, n: u32, g: Regs, k: Kept) -> Kept
     requires { ⌜ Asked chip g w ⌝ }
@@ -108,8 +88,8 @@ pub(crate) fn read(chip: Chip, w: Asks, r: Record, e: u64, n: u32, g: Regs, k: K
     };
     x.read = read;
     if r.a / 1024 % 2 == 1 {
-        let f = rd_start(chip, w, e, g, k.acted.at);
-        return shut_by(x, f, n, chip.trp);
+        let start = rd_start(chip, w, e, g, k.acted.at);
+        return shut_by(x, start, n, chip.trp);
     }
     x
 }

@@ -1,14 +1,9 @@
 // What the loop works out before it needs it: once for a section, and again after each record that is not one of the frequent ones.
 use crate::Asks;
 use crate::after::awake;
-use crate::deadlines::soonest;
-use crate::needs::most_of;
-use crate::needs::need4;
 use crate::needs::need10;
 use crate::needs::need11;
-use crate::needs::need13;
 use crate::needs::need14;
-use crate::needs::need19;
 use chip::Chip;
 use chip::Regs;
 use kept::Debt;
@@ -16,12 +11,17 @@ use kept::Mark;
 use kept::Shared;
 use kept::needing;
 use kept::since;
+use next::most_of;
+use next::need4;
+use next::need13;
+use next::need19;
+use next::soonest;
 use records::Command;
 use records::Record;
 ghost use mathlib.Core.Path.{_≡_};
 ghost use Prim.Native.Nat.{_+_, _≤_, _<_, min};
 ghost use Rattle.judge.specs.Easy as easy;
-ghost use Rattle.judge.specs.Next as next;
+ghost use Rattle.next.specs.Next as next;
 ghost use Rattle.judge.specs.Ranges.{Small, farEdge};
 
 pub(crate) fn asks_of(chip: Chip, g: Regs) -> Asks

@@ -1,17 +1,12 @@
 // A section's records, one after the other, into a state that stays in one place.
 use crate::State;
-use crate::after::after_act;
-use crate::after::after_pre;
 use crate::after::after_rd;
 use crate::after::after_wr;
 use crate::bank::acted;
 use crate::bank::due;
 use crate::bank::kept_next;
-use crate::bank::kept_shut;
 use crate::bank::read;
 use crate::bank::written;
-use crate::deadlines::late24;
-use crate::deadlines::soonest;
 use crate::easy::asks_of;
 use crate::easy::clear_of;
 use crate::easy::free_of;
@@ -29,6 +24,11 @@ use kept::fine_rest;
 use kept::fine_wr;
 use kept::first_barred;
 use kept::speaks_of_all;
+use next::after_act;
+use next::after_pre;
+use next::kept_shut;
+use next::late24;
+use next::soonest;
 use records::Command;
 use records::Record;
 ghost use mathlib.Core.Path.{_≡_};
@@ -37,9 +37,9 @@ ghost use lib.ListN.{length, getD};
 ghost use Rattle.laws.specs.Eight.{table};
 ghost use Rattle.records.specs.Record.{records, recordAt};
 ghost use Rattle.kept.specs.Marks.{empty};
-ghost use Rattle.judge.specs.Next as next;
+ghost use Rattle.next.specs.Next as next;
 ghost use Rattle.judge.specs.Step as step;
-ghost use Rattle.judge.specs.Ranges.{Small, farEdge, NearBanks, Ready};
+ghost use Rattle.judge.specs.Ranges.{Small, NearBanks, Ready};
 
 // The frequent commands come first, each with what it changes alone: a function cannot be lent a struct, and the state is not copied.
 // w, free, clear: what they ask for, from where on and up to where nothing else can happen.

@@ -54,21 +54,6 @@ pub struct Closed {
     pub owed: u64,
 }
 
-// The soonest due edge found so far, and its bank.
-pub struct Pick {
-    pub at: u64,
-    pub bank: u64,
-}
-
-// A deadline: the edge at which it passes, and what is then reported.
-pub struct Late {
-    pub at: u64,
-    pub rule: u64,
-    pub partner: u64,
-    pub needed: u64,
-    pub found: u64,
-}
-
 // The clocks that ACT, RD and WR leave behind under the registers in force: what rules 4, 10, 11, 14, 13 and 19 need, and from a WR to
 // the start of its auto precharge. long and short: of a read with A12 and without.
 pub struct Asks {

@@ -2,22 +2,14 @@
 use crate::Asks;
 use chip::Chip;
 use chip::Regs;
+use next::most_of;
 ghost use mathlib.Core.Path.{_≡_};
 ghost use Prim.Native.Nat.{_+_, _-_, _≤_, max};
 ghost use Rattle.records.specs.declared.Command.the-variants.{Rd, Wr};
 ghost use Rattle.chip.specs.Latencies.{alOf, clOf, cwlOf, hOf, bOf};
-ghost use Rattle.judge.specs.Next as next;
+ghost use Rattle.next.specs.Next as next;
 ghost use Rattle.judge.specs.Easy.{Asked};
 ghost use Rattle.judge.specs.Ranges.{Small, farEdge};
-
-pub(crate) fn need4(trcd: u32, al: u32) -> u32
-    ensures { λ x. ⌜ x ≡ max (trcd - al) 1 ⌝ }
-{
-    if al < trcd {
-        return trcd - al;
-    }
-    1
-}
 
 pub(crate) fn need10(chip: Chip, g: Regs) -> u32
     requires { ⌜ Small chip ⌝ }
@@ -33,23 +25,11 @@ pub(crate) fn need11(chip: Chip, g: Regs) -> u32
     chip::al_of(g) + chip::cwl_of(g) + chip::h_of(g) + chip.twr
 }
 
-pub(crate) fn need13(g: Regs, a: u16) -> u32
-    ensures { λ x. ⌜ x ≡ clOf g + 2 + bOf g a - cwlOf g ⌝ }
-{
-    less(chip::cl_of(g) + 2 + chip::b_of(g, a), chip::cwl_of(g))
-}
-
 pub(crate) fn need14(chip: Chip, g: Regs) -> u32
     requires { ⌜ Small chip ⌝ }
     ensures { λ x. ⌜ x ≡ cwlOf g + hOf g + chip .twtr ⌝ }
 {
     chip::cwl_of(g) + chip::h_of(g) + chip.twtr
-}
-
-pub(crate) fn need19(g: Regs, a: u16) -> u32
-    ensures { λ x. ⌜ x ≡ alOf g + clOf g + bOf g a ⌝ }
-{
-    chip::al_of(g) + chip::cl_of(g) + chip::b_of(g, a)
 }
 
 // The later of ACT + tRAS and RD + AL + tRTP.
@@ -70,22 +50,4 @@ pub(crate) fn wr_start(chip: Chip, w: Asks, e: u64, g: Regs, a: u64) -> u64
     ensures { λ x. ⌜ x ≡ next.startNow chip Wr e g a ⌝ }
 {
     e + w.start as u64
-}
-
-pub(crate) fn most_of(a: u64, b: u64) -> u64
-    ensures { λ r. ⌜ r ≡ max a b ⌝ }
-{
-    if a < b {
-        return b;
-    }
-    a
-}
-
-fn less(a: u32, b: u32) -> u32
-    ensures { λ r. ⌜ r ≡ a - b ⌝ }
-{
-    if b < a {
-        return a - b;
-    }
-    0
 }

@@ -1,11 +1,8 @@
 // What is said of the gap before a record and of its edge.
-use crate::Late;
 use crate::Turn;
 use crate::after::shared_next;
 use crate::deadlines::late25;
 use crate::deadlines::owing;
-use crate::deadlines::sooner;
-use crate::deadlines::why;
 use answers::Break;
 use answers::Verdict;
 use chip::Chip;
@@ -15,11 +12,17 @@ use kept::joined;
 use kept::or_else;
 use kept::rule3;
 use kept::spacings;
+use next::Late;
+use next::late_at;
+use next::say;
+use next::sooner;
+use next::verdict_at;
+use next::why;
 use records::Command;
 use records::Record;
 ghost use mathlib.Core.Path.{_≡_};
 ghost use Prim.Native.Nat.{_≤_};
-ghost use Rattle.judge.specs.Next.{Calm};
+ghost use Rattle.next.specs.Next.{Calm};
 ghost use Rattle.judge.specs.Ranges.{Small, farEdge};
 ghost use Rattle.judge.specs.Step as step;
 
@@ -64,75 +67,4 @@ fn says(e: u64, n: u32, x24: Late, x25: Late, b: Break, owed: u64, partner: u32)
         return verdict_at(x.at, 0, why(x));
     }
     say(e, n, b, or_else(late_at(e, x24), owing(owed, partner)))
-}
-
-fn say(e: u64, n: u32, b: Break, d: Break) -> Verdict
-    ensures { λ r. ⌜ r ≡ step.say e n b d ⌝ }
-{
-    match b {
-        Break::Fine => verdict_at(e, 0, d),
-        Break::Broken {
-            rule,
-            partner,
-            needed,
-            found,
-        } => broken_at(e, n, rule, partner, needed, found),
-    }
-}
-
-fn late_at(e: u64, x: Late) -> Break
-    ensures { λ r. ⌜ r ≡ step.lateAt e x ⌝ }
-{
-    if x.at == e {
-        return why(x);
-    }
-    Break::Fine
-}
-
-pub(crate) fn verdict_at(e: u64, n: u32, b: Break) -> Verdict
-    ensures { λ r. ⌜ r ≡ step.verdictAt e n b ⌝ }
-{
-    match b {
-        Break::Fine => none(),
-        Break::Broken {
-            rule,
-            partner,
-            needed,
-            found,
-        } => broken_at(e, n, rule, partner, needed, found),
-    }
-}
-
-fn broken_at(e: u64, n: u32, rule: u64, partner: u64, needed: u64, found: u64) -> Verdict
-    ensures { λ r. ⌜ r ≡ step.brokenAt e n rule partner needed found ⌝ }
-{
-    Verdict {
-        outcome: 1,
-        rule: rule,
-        number: n as u64,
-        partner: partner,
-        edge: e,
-        needed: needed,
-        found: found,
-    }
-}
-
-pub(crate) fn none() -> Verdict
-    ensures { λ r. ⌜ r ≡ step.noVerdict ⌝ }
-{
-    clean_at(0, 0)
-}
-
-pub(crate) fn clean_at(count: u32, end: u64) -> Verdict
-    ensures { λ r. ⌜ r ≡ step.cleanAt count end ⌝ }
-{
-    Verdict {
-        outcome: 0,
-        rule: 0,
-        number: count as u64,
-        partner: 0,
-        edge: end,
-        needed: 0,
-        found: 0,
-    }
 }

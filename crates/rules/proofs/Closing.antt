@@ -16,11 +16,12 @@ use Rattle.answers.specs.Answer.{shownOf}
 use Rattle.chip.specs.declared.Chip.{Chip}
 use Rattle.kept.specs.Marks.{empty}
 use Rattle.kept.specs.Breaks.{statusOf}
-use Rattle.judge.specs.declared.Late.{Late}
+use Rattle.next.specs.declared.Late.{Late}
 use Rattle.judge.specs.declared.Closed.{Closed}
 use Rattle.judge.specs.declared.Register.{Register}
-use Rattle.judge.specs.Deadlines.{why, nextLate}
-use Rattle.judge.specs.Step.{noVerdict, verdictAt, cleanAt}
+use Rattle.next.specs.Late.{why}
+use Rattle.judge.specs.Deadlines.{nextLate}
+use Rattle.next.specs.Said.{noVerdict, verdictAt, cleanAt}
 use Rattle.judge.specs.Calls as judge
 use Rattle.judge.specs.Calls.{verdictOf, restOf, banksAt, registersOf, closedOf}
 use Rattle.rules.specs.Past.{Past, edge, number, upTo}

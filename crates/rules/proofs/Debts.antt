@@ -11,7 +11,7 @@ use Rattle.records.specs.declared.Record.{Record}
 use Rattle.records.specs.declared.Command.the-variants.{Ref}
 use Rattle.chip.specs.declared.Chip.{Chip}
 use Rattle.kept.specs.declared.Debt.{Debt}
-use Rattle.judge.specs.Next.{debtNext}
+use Rattle.next.specs.Next.{debtNext}
 use Rattle.rules.specs.Past.{Past, edge, command, is}
 use Rattle.rules.specs.Deadlines.{asleep, awakeTo, awakeAt, owedTo, owedAt}
 

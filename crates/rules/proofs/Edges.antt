@@ -15,9 +15,10 @@ use Rattle.answers.specs.declared.Break.the-variants.{Fine, Broken}
 use Rattle.records.specs.declared.Record.{Record}
 use Rattle.records.specs.declared.Command.the-variants.{Ref}
 use Rattle.chip.specs.declared.Chip.{Chip}
-use Rattle.judge.specs.declared.Late.{Late}
-use Rattle.judge.specs.Deadlines.{why, owing}
-use Rattle.judge.specs.Step.{lateAt}
+use Rattle.next.specs.declared.Late.{Late}
+use Rattle.next.specs.Late.{why}
+use Rattle.judge.specs.Deadlines.{owing}
+use Rattle.next.specs.Said.{lateAt}
 use Rattle.rules.specs.Past.{Past, edge, number, is, latest, upTo}
 use Rattle.rules.specs.Search.{orElse, lowest}
 use Rattle.rules.specs.Banks.{status}

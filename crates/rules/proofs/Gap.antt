@@ -16,10 +16,11 @@ use Rattle.answers.specs.declared.Break.the-variants.{Fine, Broken}
 use Rattle.records.specs.declared.Command.the-variants.{Ref}
 use Rattle.chip.specs.declared.Chip.{Chip}
 use Rattle.kept.specs.Marks.{empty}
-use Rattle.judge.specs.declared.Late.{Late}
-use Rattle.judge.specs.declared.Pick.{Pick}
-use Rattle.judge.specs.Next.{due}
-use Rattle.judge.specs.Deadlines.{better, soonest, why, sooner, next24, next25, nextLate, owing}
+use Rattle.next.specs.declared.Late.{Late}
+use Rattle.next.specs.declared.Pick.{Pick}
+use Rattle.next.specs.Next.{due}
+use Rattle.next.specs.Late.{better, soonest, why, sooner}
+use Rattle.judge.specs.Deadlines.{next24, next25, nextLate, owing}
 use Rattle.rules.specs.Past.{Past, edge, number, is, latest, upTo}
 use Rattle.rules.specs.Search.{orElse, lowest}
 use Rattle.rules.specs.Banks.{status}

@@ -19,8 +19,9 @@ use Rattle.records.specs.Command.{a10}
 use Rattle.chip.specs.declared.Chip.{Chip}
 use Rattle.kept.specs.declared.Kept.{Kept}
 use Rattle.kept.specs.Marks.{empty, none}
-use Rattle.judge.specs.Next as judge
-use Rattle.judge.specs.Step.{noVerdict, turnOf, turnIn, movedOf}
+use Rattle.next.specs.Next as judge
+use Rattle.next.specs.Said.{noVerdict}
+use Rattle.judge.specs.Step.{turnOf, turnIn, movedOf}
 use Rattle.judge.specs.Calls.{freshShared, freshState, startOf}
 use Rattle.rules.specs.Deadlines.{asleep, awakeTo, owedTo}
 use Rattle.rules.specs.Past.{Past, edge, number, command, is, bankOf, addressOf, on, latest, greatest}

@@ -10,7 +10,7 @@ use lib.Dec.{ltb, leb, eqb}
 use borrow.Author.Tests.{ltb-true, ltb-false, lt-ltb, le-ltb, leb-true, leb-false, le-leb, ne-eqb}
 use Rattle.kept.specs.declared.Kept.{Kept}
 use Rattle.kept.specs.Breaks.{statusOf}
-use Rattle.judge.specs.Next.{due}
+use Rattle.next.specs.Next.{due}
 use Rattle.rules.proofs.Generic.{decide}
 use Rattle.rules.proofs.Clean.{is-other, ClosedBy, by-pre, by-rd, by-wr, closing-by}
 use Rattle.rules.proofs.Summary.{mark, mark-at, startMark, start-mark-at, kept}

@@ -16,8 +16,8 @@ use Rattle.kept.specs.declared.Rests.{Rests}
 use Rattle.kept.specs.declared.Shared.{Shared}
 use Rattle.kept.specs.Marks.{none}
 use Rattle.judge.specs.declared.State.{State}
-use Rattle.judge.specs.Step.{noVerdict}
-use Rattle.judge.specs.Next as judge
+use Rattle.next.specs.Said.{noVerdict}
+use Rattle.next.specs.Next as judge
 use Rattle.rules.specs.Past.{Past, edge, number, cke, is, addressOf, on, latest, back, has, greatest}
 use Rattle.rules.specs.Registers.{mrsTo, dllReset, regs}
 use Rattle.rules.specs.Banks.{actOn, closes, shuts, start}

@@ -19,10 +19,12 @@ use Rattle.chip.specs.declared.Chip.{Chip}
 use Rattle.kept.specs.declared.Shared.{Shared}
 use Rattle.kept.specs.Marks.{empty}
 use Rattle.kept.specs.Breaks as breaks
-use Rattle.judge.specs.declared.Late.{Late}
+use Rattle.next.specs.declared.Late.{Late}
 use Rattle.judge.specs.declared.State.{State}
-use Rattle.judge.specs.Deadlines.{why, sooner, next24, next25, nextLate, owing}
-use Rattle.judge.specs.Step.{noVerdict, say, lateAt, saysBy, turnOf, turnIn}
+use Rattle.next.specs.Late.{why, sooner}
+use Rattle.judge.specs.Deadlines.{next24, next25, nextLate, owing}
+use Rattle.next.specs.Said.{noVerdict, say, lateAt}
+use Rattle.judge.specs.Step.{saysBy, turnOf, turnIn}
 use Rattle.rules.specs.Past.{Past, edge, number, command, is, bankOf, latest}
 use Rattle.rules.specs.Search.{orElse}
 use Rattle.rules.specs.Rules.{checks, breakAt}

@@ -12,8 +12,9 @@ use Rattle.answers.specs.declared.Verdict.{Verdict}
 use Rattle.records.specs.declared.Record.{Record}
 use Rattle.chip.specs.declared.Chip.{Chip}
 use Rattle.judge.specs.declared.State.{State}
-use Rattle.judge.specs.Next.{due}
-use Rattle.judge.specs.Step.{noVerdict, isClean, turnIn, movedOf, stoppedOf, stepOf, foldOf, cleanAt, soFar}
+use Rattle.next.specs.Next.{due}
+use Rattle.next.specs.Said.{noVerdict, cleanAt}
+use Rattle.judge.specs.Step.{isClean, turnIn, movedOf, stoppedOf, stepOf, foldOf, soFar}
 use Rattle.judge.specs.Calls.{startOf}
 use Rattle.rules.specs.Past.{Past, edge, number, upTo}
 use Rattle.rules.specs.Verdict.{Outcome, clean, stop, verdictTo, shown, verdictSoFar, rest, Apart, Steps}

@@ -1,7 +1,7 @@
 -- What the command changes.
 -- Assumes nothing.
 use Rattle.judge.proofs.Asking.{n11-is, n14-is}
-use Rattle.judge.specs.Next.{markedNext, actsNext, restsNext, regsNext, writtenNext, readNext, wroteNext, shutNext, startNow}
+use Rattle.next.specs.Next.{markedNext, actsNext, restsNext, regsNext, writtenNext, readNext, wroteNext, shutNext, startNow}
 use borrow.Author.Tests.{lt-ltb, le-ltb, eq-eqb, ne-eqb}
 use borrow.Author.Needs.{needs}
 use Rattle.judge.proofs.after.after_wr.Statement.{statement}

@@ -3,7 +3,7 @@
 use borrow.Author.Tests.{lt-ltb, le-ltb, le-leb, lt-leb, eq-eqb, ne-eqb}
 use mathlib.Core.Path.{refl, sym, ap, _∙_}
 use mathlib.Core.Path.{refl}
-use Rattle.judge.specs.Next.{debtNext}
+use Rattle.next.specs.Next.{debtNext}
 use borrow.Author.Needs.{needs}
 use Rattle.judge.proofs.after.debt_next.Statement.{statement}
 use Rattle.judge.proofs.after.debt_next.Tie as tie

@@ -2,7 +2,7 @@
 -- Assumes nothing.
 use mathlib.Core.Path.{refl, sym, ap, _∙_}
 use Rattle.records.specs.declared.Command.{Command}
-use Rattle.judge.specs.Next.{markedNext, actsNext, restsNext, regsNext, writtenNext, readNext, wroteNext, shutNext}
+use Rattle.next.specs.Next.{markedNext, actsNext, restsNext, regsNext, writtenNext, readNext, wroteNext, shutNext}
 use borrow.Author.Needs.{needs}
 use Rattle.judge.proofs.after.marked_next.Statement.{statement}
 use Rattle.judge.proofs.after.marked_next.Tie as tie

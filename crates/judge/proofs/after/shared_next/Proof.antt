@@ -2,7 +2,7 @@
 -- Assumes nothing.
 use borrow.Author.Tests.{lt-ltb, le-ltb, le-leb, lt-leb, eq-eqb, ne-eqb}
 use mathlib.Core.Path.{refl, sym, ap, _∙_}
-use Rattle.judge.specs.Next.{sharedNext}
+use Rattle.next.specs.Next.{sharedNext}
 use borrow.Author.Needs.{needs}
 use Rattle.judge.proofs.after.shared_next.Statement.{statement}
 use Rattle.judge.proofs.after.shared_next.Tie as tie

@@ -1,7 +1,7 @@
 -- An ACT.
 -- Assumes nothing.
 use Rattle.judge.proofs.Asking.{n4-is}
-use Rattle.judge.specs.Next.{keptNext}
+use Rattle.next.specs.Next.{keptNext}
 use borrow.Author.Tests.{lt-ltb, le-ltb, eq-eqb, ne-eqb}
 use Rattle.judge.proofs.bank.acted.Statement.{statement}
 use Rattle.judge.proofs.bank.acted.Tie as tie

@@ -2,7 +2,7 @@
 -- Assumes nothing.
 use borrow.Author.Needs.{needs}
 use borrow.Author.Tests.{lt-ltb, le-ltb}
-use Rattle.judge.specs.Next.{due}
+use Rattle.next.specs.Next.{due}
 use Rattle.judge.proofs.bank.due.Statement.{statement}
 use Rattle.judge.proofs.bank.due.Tie as tie
 

@@ -2,7 +2,7 @@
 -- Assumes nothing.
 use mathlib.Core.Path.{refl, sym, ap, _∙_}
 use Rattle.records.specs.declared.Command.{Command}
-use Rattle.judge.specs.Next.{keptNext, startNow}
+use Rattle.next.specs.Next.{keptNext, startNow}
 use borrow.Author.Needs.{needs}
 use Rattle.judge.proofs.bank.kept_next.Statement.{statement}
 use Rattle.judge.proofs.bank.kept_next.Tie as tie

@@ -1,7 +1,7 @@
 -- A WR, with auto precharge or not.
 -- Assumes nothing.
 use Rattle.judge.proofs.Asking.{n11-is}
-use Rattle.judge.specs.Next.{keptNext}
+use Rattle.next.specs.Next.{keptNext}
 use borrow.Author.Tests.{lt-ltb, le-ltb, eq-eqb, ne-eqb}
 use borrow.Author.Needs.{needs}
 use Rattle.judge.proofs.bank.written.Statement.{statement}

@@ -1,6 +1,6 @@
 -- The break so far, a deadline, or clean.
 -- Assumes nothing.
-use Rattle.judge.specs.Step.{verdictAt}
+use Rattle.next.specs.Said.{verdictAt}
 use native.Mathlib.Omega.{arith}
 use mathlib.Core.Path.{refl, sym, ap, _∙_}
 use Prim.Native.Nat.{_<_}

@@ -2,7 +2,7 @@
 -- Assumes nothing.
 use Prim.Native.Nat.{_+_, _-_, min}
 use mathlib.Core.Path.{sym, subst}
-use Rattle.judge.specs.Deadlines.{soonest}
+use Rattle.next.specs.Late.{soonest}
 use Rattle.judge.specs.Easy.{Clear}
 use Rattle.judge.proofs.Easing.{clear-never, clear-asleep, clear-awake, clear-test}
 use borrow.Author.Needs.{needs}

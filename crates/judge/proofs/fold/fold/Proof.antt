@@ -238,7 +238,7 @@ element-copy-out-late24 : tie.Need-element-copy-out-late24 Inv-loop μ-loop
 element-copy-out-late24 c = rw (c .soonest .ensures) (soonest-bank _ _ _)
 
 late24-requires : tie.Need-late24-requires Inv-loop μ-loop
-late24-requires c κs = let l = c .before .before .before .before .before .before .before .before .before .before .before .before .before .before .before .before .before .before .before .before .before .before .before .before .loop in l .inv .folding .small .most
+late24-requires c κs = search needs
 
 speaks-of-all-requires : tie.Need-speaks-of-all-requires Inv-loop μ-loop
 speaks-of-all-requires c κs = search needs

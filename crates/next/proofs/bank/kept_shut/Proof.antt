@@ -1,0 +1,18 @@
+-- A PRE of all.
+-- Assumes nothing.
+use borrow.Author.Tests.{lt-ltb, le-ltb, le-leb, lt-leb, eq-eqb, ne-eqb}
+use mathlib.Core.Path.{refl, sym, ap, _∙_}
+use Rattle.next.specs.Next.{keptShut}
+use borrow.Author.Needs.{needs}
+use Rattle.next.proofs.bank.kept_shut.Statement.{statement}
+use Rattle.next.proofs.bank.kept_shut.Tie as tie
+
+shut-by-requires : tie.Need-shut-by-requires
+shut-by-requires c κs = search needs
+
+returns : tie.Need-returns
+unfolding keptShut
+returns c = simp (c .shut-by .ensures)
+
+pub kept-shut-spec : {M : Type 1} → statement M
+kept-shut-spec = tie.close (tie.spec shut-by-requires returns)

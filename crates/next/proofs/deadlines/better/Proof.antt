@@ -1,0 +1,19 @@
+-- The sooner due edge after lo.
+-- Assumes nothing.
+use borrow.Author.Needs.{needs}
+use borrow.Author.Tests.{lt-ltb, le-ltb, le-leb, lt-leb, eq-eqb, ne-eqb}
+use mathlib.Core.Path.{refl, sym, ap, _∙_}
+use Rattle.next.specs.Late.{better}
+use Rattle.next.proofs.deadlines.better.Statement.{statement}
+use Rattle.next.proofs.deadlines.better.Tie as tie
+
+returns : tie.Need-returns
+unfolding better
+returns c = simp (c .if1 .taken)
+
+returns-2 : tie.Need-returns-2
+unfolding better
+returns-2 c = simp (c .if1 .left)
+
+pub better-spec : {M : Type 1} → statement M
+better-spec = tie.close (tie.spec returns returns-2)

@@ -1,0 +1,44 @@
+// The clocks that a record needs, by the registers in force at it.
+use chip::Regs;
+ghost use mathlib.Core.Path.{_≡_};
+ghost use Prim.Native.Nat.{_+_, _-_, max};
+ghost use Rattle.chip.specs.Latencies.{alOf, clOf, cwlOf, bOf};
+
+pub fn need4(trcd: u32, al: u32) -> u32
+    ensures { λ x. ⌜ x ≡ max (trcd - al) 1 ⌝ }
+{
+    if al < trcd {
+        return trcd - al;
+    }
+    1
+}
+
+pub fn need13(g: Regs, a: u16) -> u32
+    ensures { λ x. ⌜ x ≡ clOf g + 2 + bOf g a - cwlOf g ⌝ }
+{
+    less(chip::cl_of(g) + 2 + chip::b_of(g, a), chip::cwl_of(g))
+}
+
+pub fn need19(g: Regs, a: u16) -> u32
+    ensures { λ x. ⌜ x ≡ alOf g + clOf g + bOf g a ⌝ }
+{
+    chip::al_of(g) + chip::cl_of(g) + chip::b_of(g, a)
+}
+
+pub fn most_of(a: u64, b: u64) -> u64
+    ensures { λ r. ⌜ r ≡ max a b ⌝ }
+{
+    if a < b {
+        return b;
+    }
+    a
+}
+
+fn less(a: u32, b: u32) -> u32
+    ensures { λ r. ⌜ r ≡ a - b ⌝ }
+{
+    if b < a {
+        return a - b;
+    }
+    0
+}
