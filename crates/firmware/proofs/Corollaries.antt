@@ -3,7 +3,7 @@
 use Prim.Native.Nat.{ℕ}
 use mathlib.Core.Path.{_≡_}
 use mathlib.Core.List.{List}
-use lib.ListN.{length, drop}
+use lib.ListN.{drop}
 use Rattle.laws.proofs.Lent as lent
 use Rattle.bursts.proofs.Answers.{length-order}
 use Rattle.registers.proofs.Answers.{six}

@@ -2,7 +2,7 @@
 -- Assumes nothing.
 use Prim.Native.Nat.{ℕ, _-_, _≤_, _<_}
 use native.Mathlib.Omega.{arith}
-use mathlib.Core.Path.{_≡_, refl, sym, ap, _∙_, subst}
+use mathlib.Core.Path.{_≡_, sym, ap, _∙_}
 use mathlib.Core.List.{List}
 use lib.ListN.{length, take, drop, length-drop}
 use lib.Seq.{take-all}
@@ -14,9 +14,8 @@ use Rattle.answers.specs.Answer.{verdictBytes, roomFor20, Reported}
 use Rattle.judge.specs.declared.Opened.{Opened}
 use Rattle.judge.specs.declared.Taken.{Taken}
 use Rattle.judge.specs.declared.Closed.{Closed}
-use Rattle.judge.specs.declared.State.{State}
 use Rattle.judge.specs.Calls.{openOf, sectionOf, closeOf}
-use Rattle.rules.specs.Recording.{wholeRefusal, wholeVerdict, judgeCode}
+use Rattle.rules.specs.Recording.{wholeRefusal, judgeCode}
 use Rattle.rules.proofs.Recordings.{too-short, refusal-most, not-opened, not-taken, closed-number, closed-verdict}
 use Rattle.firmware.specs.Calls.{Judge, Judged}
 

@@ -2,12 +2,8 @@
 -- Assumes nothing.
 use Prim.Native.Nat.{ℕ, _+_, _≤_}
 use native.Mathlib.Omega.{arith}
-use mathlib.Core.Path.{_≡_}
 use mathlib.Core.Bool.{Bool, true, false, cond}
 use lib.Dec.{eqb}
-use Rattle.laws.proofs.Unique.{Unique, one-answer}
-use Rattle.units.specs.declared.Clocks.{Clocks}
-use Rattle.units.specs.Round.{up, down}
 use Rattle.units.proofs.Rounding.{up-most, down-most}
 use Rattle.header.specs.declared.Header.{Header}
 use Rattle.header.specs.Bins.{Bin, bin0, bin1, bin2, bin3, binOf}

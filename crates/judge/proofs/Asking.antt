@@ -1,19 +1,16 @@
 -- What the registers in force ask for, worked out before the record.
 -- Assumes nothing.
-use Prim.Native.Nat.{ℕ, _+_, _-_, _/_, _%_, _≤_, max}
+use Prim.Native.Nat.{ℕ, _+_, _-_, _/_, _%_, max}
 use native.Mathlib.Omega.{arith}
 use mathlib.Core.Bool.{Bool, true, false, cond}
-use mathlib.Core.Path.{_≡_, refl, ap, sym, _∙_}
+use mathlib.Core.Path.{_≡_, refl, ap, _∙_}
 use lib.Dec.{eqb}
 use Rattle.registers.specs.Codes.{burst}
-use Rattle.records.specs.declared.Record.{Record}
 use Rattle.records.specs.declared.Command.the-variants.{Rd, Wr}
 use Rattle.chip.specs.declared.Chip.{Chip}
 use Rattle.chip.specs.declared.Regs.{Regs}
 use Rattle.chip.specs.Latencies.{alOf, clOf, cwlOf, wrOf, hOf, bOf}
 use Rattle.judge.specs.declared.Asks.{Asks}
-use Rattle.kept.specs.declared.Read.{Read}
-use Rattle.kept.specs.declared.Wrote.{Wrote}
 use Rattle.next.specs.Next.{need4, need10, need11, startNow}
 use Rattle.judge.specs.Easy.{asksOf, Asked}
 

@@ -1,39 +1,30 @@
 -- Where nothing else can happen, a record that breaks nothing moves the state and says nothing.
 -- Assumes nothing.
-use Prim.Native.Nat.{ℕ, zero, suc, _+_, _-_, _*_, _/_, _%_, _≤_, _<_, max, min}
+use Prim.Native.Nat.{ℕ, zero, suc, _+_, _-_, _*_, _≤_, _<_, max, min}
 use native.Mathlib.Omega.{arith}
 use native.Mathlib.Decide.{ℕ-discrete}
-use native.Mathlib.Nat.{div-eq-of-lt, mod-eq-of-lt, mul-le-mul-right, le-max-left, le-max-right, min-le-left, min-le-right}
+use native.Mathlib.Nat.{mul-le-mul-right, le-max-left, le-max-right, min-le-left, min-le-right}
 use mathlib.Core.Bool.{Bool, true, false, cond, not, _&&_, _||_}
 use mathlib.Core.List.{List}
 use mathlib.Core.Logic.{_⊎_, inl, inr, ⊎-elim}
-use mathlib.Core.Path.{_≡_, refl, ap, sym, _∙_, subst}
+use mathlib.Core.Path.{_≡_, refl, sym, subst}
 use lib.Dec.{eqb, leb, ltb}
 use lib.ListN.{getD, set}
-use borrow.Author.Tests.{lt-ltb, le-ltb, le-leb, lt-leb, eq-eqb, ne-eqb, ltb-true, leb-true, leb-false, ltb-false, eqb-true, not-false}
+use borrow.Author.Tests.{le-ltb, le-leb, lt-leb, ne-eqb, ltb-true, leb-false, ltb-false, eqb-true, not-false}
 use Rattle.laws.proofs.Eight.{at-set}
-use Rattle.answers.specs.declared.Break.{Break}
-use Rattle.answers.specs.declared.Break.the-variants.{Fine, Broken}
-use Rattle.answers.specs.declared.Verdict.{Verdict}
-use Rattle.records.specs.declared.Record.{Record}
-use Rattle.records.specs.declared.Command.{Command}
-use Rattle.records.specs.Command.{rank, isA, bankIn}
+use Rattle.answers.specs.declared.Break.the-variants.{Fine}
 use Rattle.chip.specs.declared.Chip.{Chip}
-use Rattle.kept.specs.declared.Kept.{Kept}
 use Rattle.kept.specs.declared.Debt.{Debt}
-use Rattle.next.specs.declared.Late.{Late}
 use Rattle.kept.specs.declared.Mark.{Mark}
 use Rattle.next.specs.declared.Pick.{Pick}
 use Rattle.kept.specs.declared.Shared.{Shared}
-use Rattle.judge.specs.declared.State.{State}
 use Rattle.kept.specs.Marks.{needing}
-use Rattle.next.specs.Next.{debtNext, passed, stamped, sharedNext, markedNext}
+use Rattle.next.specs.Next.{passed}
 use Rattle.kept.specs.Breaks.{orElse}
 use Rattle.next.specs.Late.{better, soonest, sooner, late24, late25}
-use Rattle.judge.specs.Deadlines.{owing}
 use Rattle.judge.specs.Easy.{Past, Free, Quiet, Clear, until, passedBy}
 use Rattle.judge.specs.Ranges.{farEdge}
-use Rattle.next.specs.Said.{noVerdict, verdictAt}
+use Rattle.next.specs.Said.{noVerdict}
 use Rattle.judge.specs.Step.{saysBy}
 use Rattle.kept.proofs.Both.{both, neither}
 

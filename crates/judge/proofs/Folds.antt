@@ -2,7 +2,7 @@
 -- Assumes nothing.
 use Prim.Native.Nat.{ℕ, _+_, _-_, _/_, _%_, _≤_, _<_}
 use native.Mathlib.Omega.{arith}
-use mathlib.Core.Bool.{Bool, true, false, cond}
+use mathlib.Core.Bool.{true, false}
 use mathlib.Core.List.{List}
 use mathlib.Core.Path.{_≡_, refl, ap, sym, _∙_}
 use lib.ListN.{length, drop, getD, set}
@@ -10,7 +10,6 @@ use borrow.Author.Tests.{eq-eqb, ne-eqb}
 use Rattle.laws.specs.Eight.{table}
 use Rattle.laws.proofs.Eight.{getD-table}
 use Rattle.answers.specs.declared.Break.{Break}
-use Rattle.answers.specs.declared.Verdict.{Verdict}
 use Rattle.records.specs.declared.Record.{Record}
 use Rattle.records.specs.declared.Command.{Command}
 use Rattle.records.specs.Command.{bankIn}
@@ -18,7 +17,6 @@ use Rattle.records.specs.Record.{records, recordAt}
 use Rattle.chip.specs.declared.Chip.{Chip}
 use Rattle.chip.specs.declared.Regs.{Regs}
 use Rattle.kept.specs.declared.Kept.{Kept}
-use Rattle.kept.specs.declared.Shared.{Shared}
 use Rattle.kept.specs.Marks.{empty}
 use Rattle.kept.specs.Breaks.{speaksOfAll, barredAt, lowest, rule2}
 use Rattle.next.specs.declared.Late.{Late}

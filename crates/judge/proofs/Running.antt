@@ -1,34 +1,30 @@
--- The loop over a section's records: what it has worked out, and the ways of the frequent commands through one turn.
+-- A record that comes where nothing else can happen: nothing is said of it, and the step is what it leaves behind.
 -- Assumes nothing.
-use Prim.Native.Nat.{ℕ, _+_, _-_, _/_, _%_, _≤_, _<_}
+use Prim.Native.Nat.{ℕ, _+_, _-_, _≤_, _<_}
 use native.Mathlib.Omega.{arith}
 use native.Mathlib.Nat.{div-eq-of-lt, mod-eq-of-lt}
-use mathlib.Core.Bool.{Bool, true, false, cond, not, _&&_, _||_}
-use mathlib.Core.List.{List}
+use mathlib.Core.Bool.{false}
 use mathlib.Core.Logic.{_⊎_, inl, inr, ⊎-elim}
 use mathlib.Core.Path.{_≡_, refl, ap, sym, _∙_}
-use lib.Dec.{eqb, leb, ltb}
-use lib.ListN.{getD, set}
+use lib.ListN.{set}
 use Rattle.answers.specs.declared.Break.the-variants.{Fine}
 use Rattle.records.specs.declared.Record.{Record}
 use Rattle.records.specs.declared.Command.{Command}
-use Rattle.records.specs.Command.{rank, isA, bankIn}
+use Rattle.records.specs.Command.{isA, bankIn}
 use Rattle.records.specs.declared.Command.the-variants.{Ref, Sre, Srx}
 use Rattle.chip.specs.declared.Chip.{Chip}
-use Rattle.judge.specs.declared.Asks.{Asks}
 use Rattle.kept.specs.declared.Debt.{Debt}
 use Rattle.kept.specs.declared.Kept.{Kept}
 use Rattle.kept.specs.declared.Shared.{Shared}
 use Rattle.judge.specs.declared.State.{State}
 use Rattle.next.specs.Next.{passed, preAll, keptNext, due, debtNext, regsNext, stamped, markedNext, sharedNext}
-use Rattle.next.specs.Late.{late25}
 use Rattle.judge.specs.Deadlines.{next24}
-use Rattle.judge.specs.Easy.{Asked, Free, Quiet, Clear, until, rankIf, passedBy, passedAll, holding}
+use Rattle.judge.specs.Easy.{Quiet, passedBy}
 use Rattle.next.specs.Said.{noVerdict}
 use Rattle.judge.specs.Step.{turnOf, turnIn, commandIn, ownBank, stepOf}
 use Rattle.judge.proofs.Easing.{soonest-none, says-nothing}
 use Rattle.kept.proofs.Finding.{breaksOf}
-use Rattle.judge.proofs.Folds.{Folding, moves-one}
+use Rattle.judge.proofs.Folds.{moves-one}
 
 -- a debt that no interval adds to and no command changes
 pub still : (C : Chip) (c : Command) (step : ℕ) (d : Debt) → isA Ref c ≡ false → isA Sre c ≡ false → isA Srx c ≡ false → passed d step < C .trefi

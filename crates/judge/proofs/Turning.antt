@@ -4,11 +4,10 @@ use Prim.Native.Nat.{ℕ, _+_, _-_, _/_, _%_, _≤_, _<_}
 use native.Mathlib.Omega.{arith}
 use mathlib.Core.Bool.{Bool, true, false, cond, _&&_, _||_}
 use mathlib.Core.List.{List}
-use mathlib.Core.Logic.{_⊎_, inl, inr, ⊎-elim}
 use mathlib.Core.Path.{_≡_, refl, ap, sym, _∙_, subst}
 use lib.Dec.{eqb, leb, ltb}
 use lib.ListN.{getD, set, length}
-use borrow.Author.Tests.{ltb-true, leb-true, eqb-true, eq-eqb}
+use borrow.Author.Tests.{ltb-true, leb-true, eqb-true}
 use Rattle.answers.specs.declared.Break.the-variants.{Fine}
 use Rattle.answers.specs.declared.Verdict.{Verdict}
 use Rattle.records.specs.declared.Record.{Record}
@@ -19,16 +18,15 @@ use Rattle.records.specs.Record.{records, recordAt}
 use Rattle.chip.specs.declared.Chip.{Chip}
 use Rattle.chip.specs.declared.Regs.{Regs}
 use Rattle.judge.specs.declared.Asks.{Asks}
-use Rattle.kept.specs.declared.Debt.{Debt}
 use Rattle.kept.specs.declared.Kept.{Kept}
 use Rattle.kept.specs.declared.Rests.{Rests}
 use Rattle.kept.specs.declared.Shared.{Shared}
 use Rattle.judge.specs.declared.State.{State}
 use Rattle.kept.specs.Marks.{empty}
-use Rattle.next.specs.Next.{mark, passed, preAll, keptShut, keptNext, startNow, due, debtNext, regsNext, restsNext, stamped, actsNext, writtenNext, readNext, wroteNext, shutNext, markedNext}
+use Rattle.next.specs.Next.{preAll, keptShut, keptNext, startNow, due, debtNext, regsNext, restsNext, stamped, actsNext, writtenNext, readNext, wroteNext, shutNext, markedNext}
 use Rattle.kept.specs.Fine.{Unhindered}
 use Rattle.judge.specs.Easy.{Asked, Free, Quiet, Clear, until, rankIf, passedBy, passedAll, holding}
-use Rattle.judge.specs.Ranges.{farEdge, Ready}
+use Rattle.judge.specs.Ranges.{Ready}
 use Rattle.judge.specs.Step.{stoppedOf, stepOf, foldOf}
 use Rattle.kept.proofs.Both.{both}
 use Rattle.judge.proofs.Easing.{clear-on, clear-broken, clear-never}

@@ -1,14 +1,13 @@
 -- A record of a frequent command that is found fine breaks nothing.
 -- Assumes nothing.
-use Prim.Native.Nat.{ℕ, _-_, _/_, _%_, _≤_, _<_}
+use Prim.Native.Nat.{ℕ, _-_, _/_, _%_}
 use native.Mathlib.Omega.{arith}
 use mathlib.Core.Bool.{Bool, true, false, cond, _&&_, _||_}
 use mathlib.Core.List.{List}
-use mathlib.Core.Logic.{_⊎_, inl, inr, ⊎-elim}
 use mathlib.Core.Path.{_≡_, refl, ap, sym, _∙_}
 use lib.Dec.{eqb, leb, ltb}
 use lib.ListN.{getD}
-use borrow.Author.Tests.{le-ltb, eqb-true, leb-true, ltb-true}
+use borrow.Author.Tests.{le-ltb, eqb-true, leb-true}
 use Rattle.answers.specs.declared.Bank.{Bank}
 use Rattle.answers.specs.declared.Bank.the-variants.{Idle, Open, Closing}
 use Rattle.answers.specs.declared.Break.{Break}
@@ -16,14 +15,14 @@ use Rattle.answers.specs.declared.Break.the-variants.{Fine, Broken}
 use Rattle.records.specs.declared.Record.{Record}
 use Rattle.records.specs.declared.Command.{Command}
 use Rattle.records.specs.declared.Command.the-variants.{Mrs, Ref, Pre, Act, Wr, Rd, Zq, Nop, Des, Sre, Srx, Low, Bad}
-use Rattle.records.specs.Command.{rank, a10, bankIn}
+use Rattle.records.specs.Command.{rank, bankIn}
 use Rattle.chip.specs.declared.Chip.{Chip}
 use Rattle.kept.specs.declared.Mark.{Mark}
 use Rattle.kept.specs.declared.Kept.{Kept}
 use Rattle.kept.specs.declared.Shared.{Shared}
 use Rattle.kept.specs.Marks.{none, empty, needing, spaced, as10, as11, as13, as14}
-use Rattle.kept.specs.Breaks.{orElse, joined, barredBy, statusOf, rule2, rule3, waits, spacings}
-use Rattle.kept.specs.Fine.{met, metBy, fineAct, fineRd, fineWr, finePre, fineRest, Unhindered}
+use Rattle.kept.specs.Breaks.{orElse, joined, barredBy, statusOf, rule2, rule3, spacings}
+use Rattle.kept.specs.Fine.{met, metBy, fineAct, fineRd, fineWr, finePre, Unhindered}
 use Rattle.kept.proofs.Both.{both}
 
 -- ── The command of a rank ───────────────────────────────────────────────────────────────────

@@ -4,7 +4,7 @@ use Prim.Native.Nat.{ℕ, _-_}
 use mathlib.Core.Bool.{cond}
 use lib.Dec.{eqb, ltb}
 use Rattle.answers.specs.declared.Break.{Break}
-use Rattle.answers.specs.declared.Break.the-variants.{Fine, Broken}
+use Rattle.answers.specs.declared.Break.the-variants.{Broken}
 use Rattle.kept.specs.declared.Mark.{Mark}
 use Rattle.kept.specs.declared.Kept.{Kept}
 use Rattle.kept.specs.declared.Read.{Read}

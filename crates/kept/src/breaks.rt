@@ -1,6 +1,5 @@
 // What a record breaks: rules 1 to 23, the lowest first, from what is kept.
 use crate::Kept;
-use crate::Shared;
 use crate::Written;
 use crate::bank::status;
 use answers::Bank;

@@ -11,7 +11,6 @@ use chip::Chip;
 use records::Command;
 use records::Record;
 ghost use mathlib.Core.Path.{_≡_};
-ghost use mathlib.Core.Bool.{true, false};
 ghost use Rattle.records.specs.declared.Command.the-variants.{Act, Pre, Rd, Wr, Mrs, Ref, Sre};
 ghost use Rattle.answers.specs.declared.Break.the-variants.{Fine};
 ghost use Rattle.kept.specs.Marks as marks;

@@ -1,6 +1,5 @@
 // The program's one line, of a verdict or of a refusal: 01, P8 to P10. Numbers are in decimal, and a newline ends the line.
 use answers::Verdict;
-ghost use mathlib.Core.Path.{_≡_};
 ghost use Prim.Native.Nat.{_+_, _≤_};
 ghost use lib.ListN.{length};
 ghost use Rattle.io.specs.Counts.{Counts};

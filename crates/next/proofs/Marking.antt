@@ -1,7 +1,7 @@
 -- What an MRS changes, put together field by field.
 -- Assumes nothing.
 use Prim.Native.Nat.{ℕ}
-use mathlib.Core.Path.{_≡_, refl, sym, ap, _∙_}
+use mathlib.Core.Path.{_≡_, sym, ap, _∙_}
 use mathlib.Core.Bool.{Bool, cond, or-false}
 use Rattle.records.specs.declared.Record.{Record}
 use Rattle.records.specs.declared.Command.the-variants.{Mrs}
@@ -9,7 +9,6 @@ use Rattle.records.specs.Command.{bankIn}
 use Rattle.chip.specs.declared.Chip.{Chip}
 use Rattle.chip.specs.declared.Regs.{Regs}
 use Rattle.kept.specs.declared.Mark.{Mark}
-use Rattle.kept.specs.declared.Rests.{Rests}
 use Rattle.kept.specs.declared.Written.{Written}
 use Rattle.kept.specs.declared.Shared.{Shared}
 use Rattle.next.specs.Next.{mark, resetsNow, regsSet, writtenSet, markedNext, actsNext, restsNext, regsNext, writtenNext, readNext, wroteNext, shutNext}

@@ -1,14 +1,14 @@
 -- How a record changes what is kept. c is its command, r the record, e its edge, n its number, g the registers in force at it.
 -- Assumes nothing.
 use Prim.Native.Nat.{ℕ, _+_, _-_, _/_, _%_, _≤_, max}
-use mathlib.Core.Bool.{Bool, true, false, cond, not, _&&_, _||_}
+use mathlib.Core.Bool.{Bool, cond, not, _&&_, _||_}
 use mathlib.Core.List.{List, [], _∷_}
 use lib.Dec.{eqb, leb, ltb}
 use lib.ListN.{getD, set}
 use Rattle.laws.specs.Eight.{table}
 use Rattle.records.specs.declared.Record.{Record}
 use Rattle.records.specs.declared.Command.{Command}
-use Rattle.records.specs.declared.Command.the-variants.{Mrs, Ref, Pre, Act, Wr, Rd, Zq, Nop, Des, Sre, Srx, Low, Bad}
+use Rattle.records.specs.declared.Command.the-variants.{Mrs, Ref, Pre, Act, Wr, Rd, Zq, Sre, Srx}
 use Rattle.records.specs.Command.{isA, a10, bankIn}
 use Rattle.registers.specs.Codes.{resets}
 use Rattle.chip.specs.declared.Chip.{Chip}
@@ -105,7 +105,7 @@ keptNext C c r e n g k =
 abbrev pub shutBy : Kept → (f n need : ℕ) → Kept
 shutBy k f n need = record { acted = k .acted; row = k .row; read = k .read; wrote = k .wrote; shut = mark f n need }
 
--- a bank after a PRE of all
+-- a bank after a PRE that covers it
 unfoldable pub keptShut : Chip → (e n : ℕ) → Kept → Kept
 keptShut C e n k = shutBy k e n (C .trp)
 

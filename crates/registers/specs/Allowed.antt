@@ -1,7 +1,7 @@
 -- The codes that are allowed under a header: 01, "Registers". "A field code not listed is not allowed."
 -- Assumes nothing.
 use Prim.Native.Nat.{ℕ}
-use mathlib.Core.Bool.{Bool, true, false, cond, not, _&&_, _||_}
+use mathlib.Core.Bool.{Bool, false, cond, not, _&&_}
 use lib.Dec.{eqb, leb, ltb}
 use Rattle.header.specs.declared.Header.{Header}
 use Rattle.header.specs.Counts.{tWR}

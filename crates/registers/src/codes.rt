@@ -1,6 +1,5 @@
 // The fields of a register's code, and the latencies of the codes in force.
 ghost use mathlib.Core.Path.{_≡_};
-ghost use Prim.Native.Nat.{_≤_};
 ghost use Rattle.registers.specs.Codes as codes;
 
 // CL by its code A6A5A4A2; 0: not listed.

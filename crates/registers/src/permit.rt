@@ -5,7 +5,6 @@ use crate::codes::wr;
 use header::Header;
 ghost use mathlib.Core.Path.{_≡_};
 ghost use Prim.Native.Nat.{_<_};
-ghost use Rattle.registers.specs.Codes as codes;
 ghost use Rattle.registers.specs.Allowed as allows;
 
 // By CL: the period from, the period under, the lowest bin, the highest bin.

@@ -16,7 +16,7 @@ use Rattle.rules.specs.Banks.{start}
 use Rattle.rules.specs.Search.{asking}
 use Rattle.rules.specs.Rules.{Row, r4, r6, r7, r9, r10, r11, r12r, r12w, r13, r14, r15, r16, r17, r18, r19, r20, r21, r22, rule1, rule2, rule3, rule5, rule8, rule23, since, fourth, spacing, spaced, checks}
 use Rattle.rules.proofs.Generic.{decide, broken-fine, short-fine, fine-kept}
-use Rattle.rules.proofs.Events.{never, event-some}
+use Rattle.rules.proofs.Events.{never}
 use Rattle.rules.proofs.Clean.{Among, first, next, lowest-fine, is-other, act-not-all}
 use Rattle.rules.proofs.Starts.{since-kept}
 use Rattle.rules.proofs.Partners.{Latest, latest-one, Fourth, fourth-one}

@@ -12,7 +12,7 @@ use borrow.Author.Tests.{eqb-true, ne-eqb}
 use Rattle.answers.specs.declared.Bank.{Bank}
 use Rattle.answers.specs.declared.Bank.the-variants.{Idle, Open, Closing}
 use Rattle.answers.specs.declared.Break.{Break}
-use Rattle.answers.specs.declared.Break.the-variants.{Fine, Broken}
+use Rattle.answers.specs.declared.Break.the-variants.{Fine}
 use Rattle.records.specs.declared.Record.{Record}
 use Rattle.records.specs.declared.Command.{Command}
 use Rattle.records.specs.declared.Command.the-variants.{Mrs, Ref, Pre, Act, Wr, Rd, Zq, Nop, Des, Sre, Srx, Low, Bad}

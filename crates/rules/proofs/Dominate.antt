@@ -9,7 +9,7 @@ use mathlib.Core.List.{[], _∷_}
 use lib.Dec.{eqb}
 use borrow.Author.Tests.{eqb-true, eq-eqb}
 use Rattle.records.specs.declared.Record.{Record}
-use Rattle.records.specs.declared.Command.the-variants.{Mrs, Pre, Act, Wr, Rd, Zq}
+use Rattle.records.specs.declared.Command.the-variants.{Mrs, Act, Wr, Rd, Zq}
 use Rattle.records.specs.Command.{a10, counts}
 use Rattle.chip.specs.declared.Chip.{Chip}
 use Rattle.chip.specs.Latencies.{alOf, clOf, cwlOf, hOf}

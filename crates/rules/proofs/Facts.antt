@@ -4,7 +4,7 @@ use Prim.Native.Nat.{ℕ, _+_, _*_, _/_, _%_, _≤_, _<_}
 use native.Mathlib.Nat.{add-mul}
 use native.Mathlib.Omega.{arith}
 use mathlib.Core.Path.{_≡_, refl}
-use mathlib.Core.Bool.{Bool, true, false, cond, _&&_}
+use mathlib.Core.Bool.{Bool, true, false, cond}
 use lib.Dec.{eqb, leb, ltb}
 use borrow.Author.Tests.{eqb-true, leb-true, ltb-true}
 use Rattle.units.specs.Round.{up, down}
@@ -17,7 +17,7 @@ use Rattle.registers.specs.Allowed.{Span, span, spanOf, clFits, allowed0, allow
 use Rattle.chip.specs.declared.Chip.{Chip}
 use Rattle.chip.specs.declared.Regs.{Regs}
 use Rattle.chip.specs.Chip.{chipOf}
-use Rattle.chip.specs.Latencies.{alOf, clOf, cwlOf, wrOf, hOf, bOf}
+use Rattle.chip.specs.Latencies.{clOf, cwlOf, wrOf, bOf}
 use Rattle.rules.proofs.Events.{both}
 
 -- registers that hold allowed codes

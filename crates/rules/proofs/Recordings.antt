@@ -7,13 +7,13 @@ use mathlib.Core.Path.{_≡_, refl, sym, ap, _∙_}
 use mathlib.Core.Bool.{Bool, true, false, cond, _&&_, _||_}
 use mathlib.Core.List.{List, [], _∷_}
 use lib.Dec.{eqb, ltb}
-use lib.ListN.{length, take, drop, length-take}
-use borrow.Author.Tests.{eqb-true, eq-eqb, ne-eqb}
+use lib.ListN.{length, drop, length-take}
+use borrow.Author.Tests.{eq-eqb, ne-eqb}
 use Rattle.header.specs.declared.Header.{Header}
 use Rattle.header.specs.declared.Parsed.{Parsed}
 use Rattle.header.specs.declared.Parsed.the-variants.{Taken, Refused}
 use Rattle.header.specs.Bins.{binOf}
-use Rattle.header.specs.Bytes.{parsedOf, edition, bin, zeroA, zeroB, period, fieldsRefusal, headerRefusal, headerWord, headerOf, numberOf}
+use Rattle.header.specs.Bytes.{parsedOf, edition, bin, zeroA, zeroB, period, fieldsRefusal, headerRefusal, headerWord, numberOf}
 use Rattle.header.proofs.Answers.{number-is}
 use Rattle.records.specs.declared.Record.{Record}
 use Rattle.records.specs.Record.{records}

@@ -13,7 +13,7 @@ use Rattle.records.specs.declared.Record.{Record}
 use Rattle.records.specs.declared.Command.the-variants.{Pre, Rd, Wr}
 use Rattle.chip.specs.declared.Chip.{Chip}
 use Rattle.rules.specs.Past.{Past, edge, number, is, bankOf, _∈_, here, there, latest, greatest}
-use Rattle.rules.specs.Registers.{al, cwl, wl, h, wr}
+use Rattle.rules.specs.Registers.{al, cwl, h, wr}
 use Rattle.rules.specs.Banks.{actOn, closes, touches, notClosing, start, seen}
 use Rattle.rules.specs.Rules.{since}
 use Rattle.rules.proofs.Generic.{decide, short-fine}

@@ -23,8 +23,8 @@ lowest f (suc n) = orElse (lowest f n) (f n)
 abbrev pub short : (k e at num need : ℕ) → Break → Break
 short k e at num need otherwise = cond (ltb (e - at) need) (Broken k num need (e - at)) otherwise
 
--- rule k at the edge e: the latest event of p since which there are fewer clocks than it asks. They are counted from the edge `from` it: its
--- own, or its precharge start
+-- rule k at the edge e: the latest event of p since which there are fewer clocks than it asks, counted from the edge that `from` gives: in
+-- every row the event's own
 abbrev pub lookBack : (from : Past → ℕ) → ℕ → (Past → ℕ) → ℕ → Past → Break
 lookBack from k asks e [] = Fine
 lookBack from k asks e (r ∷ p) = short k e (from (r ∷ p)) (number (r ∷ p)) (asks (r ∷ p)) (lookBack from k asks e p)

@@ -20,7 +20,7 @@ use Rattle.rules.proofs.Sections.{run as judgeRun, taken as judgeTaken, Judges,
 use Rattle.tally.specs.declared.Tally.{Tally}
 use Rattle.tally.specs.Tally.{start}
 use Rattle.tally.specs.Counts.{total}
-use Rattle.tally.proofs.Cuts.{run, taken, Tells, sections-tallied, start-stands, Sixes, uncut, all-taken}
+use Rattle.tally.proofs.Cuts.{run, Tells, sections-tallied, start-stands, Sixes, uncut, all-taken}
 
 -- the judge takes each section in its turn
 abbrev pub AllTaken : State → List (List ℕ) → Type 0

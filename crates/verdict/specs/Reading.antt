@@ -1,6 +1,6 @@
 -- What the loop over the sections goes by.
 -- Assumes nothing.
-use Prim.Native.Nat.{ℕ, _+_, _≤_}
+use Prim.Native.Nat.{_+_, _≤_}
 use mathlib.Core.Path.{_≡_}
 use Rattle.judge.specs.declared.State.{State}
 use Rattle.judge.specs.Ranges.{limit}

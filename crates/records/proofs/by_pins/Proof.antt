@@ -1,6 +1,5 @@
 -- The pins in 01's order.
 -- Assumes nothing.
-use borrow.Author.Needs.{needs}
 use borrow.Author.Tests.{ne-eqb}
 use Rattle.records.specs.Command.{byPins}
 use Rattle.records.proofs.by_pins.Statement.{statement}

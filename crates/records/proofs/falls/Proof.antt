@@ -1,7 +1,6 @@
 -- A fall of CKE.
 -- Assumes nothing.
-use borrow.Author.Needs.{needs}
-use borrow.Author.Tests.{eq-eqb, ne-eqb, le-leb, lt-leb}
+use borrow.Author.Tests.{eq-eqb, ne-eqb}
 use Rattle.records.specs.Command.{falling}
 use Rattle.records.proofs.falls.Statement.{statement}
 use Rattle.records.proofs.falls.Tie as tie

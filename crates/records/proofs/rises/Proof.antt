@@ -1,7 +1,6 @@
 -- A rise of CKE.
 -- Assumes nothing.
-use borrow.Author.Needs.{needs}
-use borrow.Author.Tests.{eq-eqb, ne-eqb, le-leb, lt-leb}
+use borrow.Author.Tests.{le-leb, lt-leb}
 use Rattle.records.specs.Command.{rising}
 use Rattle.records.proofs.rises.Statement.{statement}
 use Rattle.records.proofs.rises.Tie as tie

@@ -1,7 +1,7 @@
 -- `verdict::judged` is safe, ends, and leaves nothing to read. The invariant: as long as there may be more, the state counts what
 -- was read, and keeps the limit. The measure is what is left of the limit, and a section more.
 -- Assumes nothing.
-use Prim.Native.Nat.{ℕ, _-_, _≤_}
+use Prim.Native.Nat.{_-_, _≤_}
 use native.Mathlib.Omega.{arith}
 use mathlib.Core.Bool.{Bool, true, false}
 use mathlib.Core.Path.{_≡_, refl}

@@ -2,8 +2,6 @@
 -- Assumes nothing.
 use borrow.Author.Needs.{needs}
 use borrow.Author.Tests.{lt-ltb, le-ltb}
-use native.Mathlib.Omega.{arith}
-use mathlib.Core.Path.{refl}
 use Rattle.header.proofs.bins.row.Statement.{statement}
 use Rattle.header.proofs.bins.row.Tie as tie
 

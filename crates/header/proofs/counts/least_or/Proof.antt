@@ -1,8 +1,7 @@
 -- The greater of the count and the floor.
 -- Assumes nothing.
 use Rattle.units.specs.declared.Clocks.{Clocks}
-use mathlib.Core.Path.{_≡_, ap, sym, _∙_}
-use Prim.Native.Nat.{ℕ, max}
+use mathlib.Core.Path.{ap}
 use Rattle.header.specs.Counts.{clocks}
 use native.Mathlib.Omega.{arith}
 use borrow.Author.Needs.{needs}

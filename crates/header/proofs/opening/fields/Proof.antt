@@ -1,11 +1,10 @@
 -- Checks 2, 3, 4 in their order.
 -- Assumes nothing.
 use Prim.Native.Nat.{ℕ, _≤_}
-use mathlib.Core.Path.{_≡_, ap, sym, _∙_}
+use mathlib.Core.Path.{_≡_, ap}
 use Rattle.header.specs.Bytes.{fieldsOf, fieldsRefusal, headerOf, edition, zeroA, zeroB, bin, period}
 use Rattle.header.specs.Bins.{binOf}
 use Rattle.header.specs.declared.Header.{Header}
-use Rattle.header.specs.declared.Parsed.{Parsed}
 use Rattle.header.specs.declared.Parsed.the-variants.{Taken}
 use borrow.Author.Tests.{lt-ltb, le-ltb, eq-eqb, ne-eqb}
 use native.Mathlib.Nat.{div-one}

@@ -1,6 +1,6 @@
 -- Check 1, then the fields.
 -- Assumes nothing.
-use borrow.Author.Tests.{lt-ltb, le-ltb, eq-eqb, ne-eqb}
+use borrow.Author.Tests.{eq-eqb, ne-eqb}
 use Rattle.header.specs.Bytes.{parsedOf, headerRefusal, headerWord, fieldsOf}
 use borrow.Author.Needs.{needs}
 use Rattle.header.proofs.opening.parse.Statement.{statement}

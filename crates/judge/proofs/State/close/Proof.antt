@@ -1,14 +1,12 @@
 -- Checks 17 and 8; then the end.
 -- Assumes nothing.
-use borrow.Author.Tests.{lt-ltb, le-ltb, eq-eqb, ne-eqb, not-true, not-false, ltb-false}
+use borrow.Author.Tests.{not-true, not-false, ltb-false}
 use lib.Dec.{ltb}
 use native.Mathlib.Omega.{arith}
-use mathlib.Core.Path.{_≡_, refl, sym, ap, _∙_}
-use mathlib.Core.Bool.{Bool, true, false, _||_}
+use mathlib.Core.Path.{sym, _∙_}
 use Rattle.judge.proofs.Ranging.{tested, small}
 use Rattle.kept.proofs.Both.{neither}
 use Rattle.judge.specs.Calls.{closeOf}
-use Rattle.judge.specs.Ranges.{inRange}
 use borrow.Author.Needs.{needs}
 use Rattle.judge.proofs.State.close.Statement.{statement}
 use Rattle.judge.proofs.State.close.Tie as tie

@@ -3,8 +3,7 @@
 use Rattle.judge.specs.declared.State.{State}
 use Rattle.judge.specs.declared.Opened.{Opened}
 use Prim.Native.Nat.{ℕ}
-use mathlib.Core.Path.{refl, sym, ap, _∙_}
-use Rattle.header.specs.declared.Parsed.{Parsed}
+use mathlib.Core.Path.{sym, ap, _∙_}
 use Rattle.judge.specs.Calls.{openOf, openedBy}
 use borrow.Author.Needs.{needs}
 use Rattle.judge.proofs.State.open.Statement.{statement}

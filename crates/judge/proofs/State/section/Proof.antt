@@ -2,16 +2,13 @@
 -- Assumes nothing.
 use Rattle.judge.specs.Calls.{take}
 use Rattle.judge.specs.Step.{foldOf}
-use Rattle.judge.specs.declared.Taken.{Taken}
 use Rattle.chip.specs.declared.Chip.{Chip}
 use Rattle.records.specs.Record.{records}
-use borrow.Author.Tests.{lt-ltb, le-ltb, eq-eqb, ne-eqb, not-true, not-false, ltb-false}
+use borrow.Author.Tests.{lt-ltb, le-ltb, eq-eqb, ne-eqb, not-true, not-false}
 use native.Mathlib.Omega.{arith}
-use mathlib.Core.Path.{_≡_, refl, sym, ap, _∙_}
+use mathlib.Core.Path.{sym, ap, _∙_}
 use Rattle.judge.proofs.Ranging.{tested, small}
-use Rattle.kept.proofs.Both.{neither}
 use Rattle.judge.specs.Calls.{sectionOf}
-use Rattle.judge.specs.Ranges.{inRange}
 use borrow.Author.Needs.{needs}
 use Rattle.judge.proofs.State.section.Statement.{statement}
 use Rattle.judge.proofs.State.section.Tie as tie

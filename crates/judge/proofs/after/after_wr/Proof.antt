@@ -2,7 +2,7 @@
 -- Assumes nothing.
 use Rattle.judge.proofs.Asking.{n11-is, n14-is}
 use Rattle.next.specs.Next.{markedNext, actsNext, restsNext, regsNext, writtenNext, readNext, wroteNext, shutNext, startNow}
-use borrow.Author.Tests.{lt-ltb, le-ltb, eq-eqb, ne-eqb}
+use borrow.Author.Tests.{eq-eqb, ne-eqb}
 use borrow.Author.Needs.{needs}
 use Rattle.judge.proofs.after.after_wr.Statement.{statement}
 use Rattle.judge.proofs.after.after_wr.Tie as tie

@@ -1,8 +1,5 @@
 -- Edges pass; then a REF.
 -- Assumes nothing.
-use borrow.Author.Tests.{lt-ltb, le-ltb, le-leb, lt-leb, eq-eqb, ne-eqb}
-use mathlib.Core.Path.{refl, sym, ap, _∙_}
-use mathlib.Core.Path.{refl}
 use Rattle.next.specs.Next.{debtNext}
 use borrow.Author.Needs.{needs}
 use Rattle.judge.proofs.after.debt_next.Statement.{statement}

@@ -1,7 +1,7 @@
 -- Nothing is divided where no interval is whole.
 -- Assumes nothing.
 use native.Mathlib.Nat.{mod-eq-of-lt}
-use mathlib.Core.Path.{refl, sym, ap, _∙_}
+use mathlib.Core.Path.{sym}
 use borrow.Author.Needs.{needs}
 use Rattle.judge.proofs.after.rest.Statement.{statement}
 use Rattle.judge.proofs.after.rest.Tie as tie

@@ -1,7 +1,5 @@
 -- Edge, level and debt; then what the command changes.
 -- Assumes nothing.
-use borrow.Author.Tests.{lt-ltb, le-ltb, le-leb, lt-leb, eq-eqb, ne-eqb}
-use mathlib.Core.Path.{refl, sym, ap, _∙_}
 use Rattle.next.specs.Next.{sharedNext}
 use borrow.Author.Needs.{needs}
 use Rattle.judge.proofs.after.shared_next.Statement.{statement}

@@ -2,7 +2,7 @@
 -- Assumes nothing.
 use native.Mathlib.Nat.{div-le-self}
 use native.Mathlib.Nat.{div-eq-of-lt}
-use mathlib.Core.Path.{refl, sym, ap, _∙_}
+use mathlib.Core.Path.{refl, sym}
 use borrow.Author.Needs.{needs}
 use Rattle.judge.proofs.after.whole.Statement.{statement}
 use Rattle.judge.proofs.after.whole.Tie as tie

@@ -2,7 +2,7 @@
 -- Assumes nothing.
 use Rattle.judge.proofs.Asking.{n10-is}
 use Rattle.next.specs.Next.{keptNext}
-use borrow.Author.Tests.{lt-ltb, le-ltb, eq-eqb, ne-eqb}
+use borrow.Author.Tests.{eq-eqb, ne-eqb}
 use borrow.Author.Needs.{needs}
 use Rattle.judge.proofs.bank.read.Statement.{statement}
 use Rattle.judge.proofs.bank.read.Tie as tie

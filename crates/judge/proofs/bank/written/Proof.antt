@@ -2,7 +2,7 @@
 -- Assumes nothing.
 use Rattle.judge.proofs.Asking.{n11-is}
 use Rattle.next.specs.Next.{keptNext}
-use borrow.Author.Tests.{lt-ltb, le-ltb, eq-eqb, ne-eqb}
+use borrow.Author.Tests.{eq-eqb, ne-eqb}
 use borrow.Author.Needs.{needs}
 use Rattle.judge.proofs.bank.written.Statement.{statement}
 use Rattle.judge.proofs.bank.written.Tie as tie

@@ -1,7 +1,5 @@
 -- Its parts.
 -- Assumes nothing.
-use borrow.Author.Tests.{lt-ltb, le-ltb, le-leb, lt-leb, eq-eqb, ne-eqb}
-use mathlib.Core.Path.{refl, sym, ap, _∙_}
 use Rattle.judge.specs.Calls.{closedOf}
 use borrow.Author.Needs.{needs}
 use Rattle.judge.proofs.calls.closed.Statement.{statement}

@@ -1,7 +1,6 @@
 -- The break, or clean at the last edge.
 -- Assumes nothing.
-use borrow.Author.Tests.{lt-ltb, le-ltb, le-leb, lt-leb, eq-eqb, ne-eqb}
-use mathlib.Core.Path.{refl, sym, ap, _∙_}
+use borrow.Author.Tests.{eq-eqb, ne-eqb}
 use Rattle.judge.specs.Step.{soFar}
 use borrow.Author.Needs.{needs}
 use Rattle.judge.proofs.calls.so_far.Statement.{statement}

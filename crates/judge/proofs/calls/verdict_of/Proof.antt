@@ -2,7 +2,7 @@
 -- Assumes nothing.
 use Rattle.next.specs.Said.{verdictAt}
 use native.Mathlib.Omega.{arith}
-use mathlib.Core.Path.{refl, sym, ap, _∙_}
+use mathlib.Core.Path.{ap, _∙_}
 use Prim.Native.Nat.{_<_}
 use Rattle.judge.proofs.Ranging.{soonest-bank}
 use Rattle.judge.proofs.Closing.{was-broken, late-says, clean-says}

@@ -1,7 +1,5 @@
 -- The missing intervals from the latest record on.
 -- Assumes nothing.
-use borrow.Author.Tests.{lt-ltb, le-ltb, le-leb, lt-leb, eq-eqb, ne-eqb}
-use mathlib.Core.Path.{refl, sym, ap, _∙_}
 use borrow.Author.Needs.{needs}
 use Rattle.judge.proofs.deadlines.late25.Statement.{statement}
 use Rattle.judge.proofs.deadlines.late25.Tie as tie

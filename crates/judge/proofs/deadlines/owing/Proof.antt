@@ -1,8 +1,6 @@
 -- Rule 25 at 17 owed.
 -- Assumes nothing.
-use borrow.Author.Needs.{needs}
-use borrow.Author.Tests.{lt-ltb, le-ltb, le-leb, lt-leb, eq-eqb, ne-eqb}
-use mathlib.Core.Path.{refl, sym, ap, _∙_}
+use borrow.Author.Tests.{lt-ltb, le-ltb, le-leb, lt-leb}
 use Rattle.judge.proofs.deadlines.owing.Statement.{statement}
 use Rattle.judge.proofs.deadlines.owing.Tie as tie
 

@@ -1,7 +1,6 @@
 -- The debt alone is worked out.
 -- Assumes nothing.
 use Rattle.judge.specs.Easy.{passedAll}
-use borrow.Author.Tests.{lt-ltb, le-ltb, eq-eqb, ne-eqb}
 use borrow.Author.Needs.{needs}
 use Rattle.judge.proofs.easy.passed_all.Statement.{statement}
 use Rattle.judge.proofs.easy.passed_all.Tie as tie

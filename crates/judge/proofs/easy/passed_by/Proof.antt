@@ -1,7 +1,5 @@
 -- Awake or asleep.
 -- Assumes nothing.
-use Rattle.judge.specs.Easy.{passedBy}
-use borrow.Author.Tests.{lt-ltb, le-ltb, eq-eqb, ne-eqb}
 use borrow.Author.Needs.{needs}
 use Rattle.judge.proofs.easy.passed_by.Statement.{statement}
 use Rattle.judge.proofs.easy.passed_by.Tie as tie

@@ -1,7 +1,5 @@
 -- The rank, or 13.
 -- Assumes nothing.
-use Rattle.judge.specs.Easy.{rankIf}
-use borrow.Author.Tests.{lt-ltb, le-ltb, eq-eqb, ne-eqb}
 use borrow.Author.Needs.{needs}
 use Rattle.judge.proofs.easy.rank_if.Statement.{statement}
 use Rattle.judge.proofs.easy.rank_if.Tie as tie

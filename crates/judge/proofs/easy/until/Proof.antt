@@ -1,7 +1,5 @@
 -- A due edge in between, or none.
 -- Assumes nothing.
-use Rattle.judge.specs.Easy.{until}
-use borrow.Author.Tests.{lt-ltb, le-ltb, eq-eqb, ne-eqb}
 use Rattle.judge.proofs.easy.until.Statement.{statement}
 use Rattle.judge.proofs.easy.until.Tie as tie
 

@@ -1,7 +1,5 @@
 -- The eight banks in turn.
 -- Assumes nothing.
-use borrow.Author.Tests.{lt-ltb, le-ltb, le-leb, lt-leb, eq-eqb, ne-eqb}
-use mathlib.Core.Path.{refl, sym, ap, _∙_}
 use Rattle.laws.specs.Eight.{table}
 use native.Mathlib.Omega.{arith}
 use borrow.Author.Needs.{needs}

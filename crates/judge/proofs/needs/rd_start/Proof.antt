@@ -2,8 +2,6 @@
 -- Assumes nothing.
 use mathlib.Core.Path.{_∙_}
 use Rattle.judge.proofs.Asking.{rd-starts}
-use Rattle.next.specs.Next.{startNow}
-use borrow.Author.Tests.{lt-ltb, le-ltb, eq-eqb, ne-eqb}
 use borrow.Author.Needs.{needs}
 use Rattle.judge.proofs.needs.rd_start.Statement.{statement}
 use Rattle.judge.proofs.needs.rd_start.Tie as tie

@@ -1,8 +1,6 @@
 -- The sum was worked out before.
 -- Assumes nothing.
 use Rattle.judge.proofs.Asking.{wr-starts}
-use Rattle.next.specs.Next.{startNow}
-use borrow.Author.Tests.{lt-ltb, le-ltb, eq-eqb, ne-eqb}
 use borrow.Author.Needs.{needs}
 use Rattle.judge.proofs.needs.wr_start.Statement.{statement}
 use Rattle.judge.proofs.needs.wr_start.Tie as tie

@@ -1,7 +1,5 @@
 -- The eight banks in turn.
 -- Assumes nothing.
-use borrow.Author.Tests.{lt-ltb, le-ltb, le-leb, lt-leb, eq-eqb, ne-eqb}
-use mathlib.Core.Path.{refl, sym, ap, _∙_}
 use Rattle.judge.specs.Ranges.{banksOk}
 use borrow.Author.Needs.{needs}
 use Rattle.judge.proofs.ranges.banks_ok.Statement.{statement}

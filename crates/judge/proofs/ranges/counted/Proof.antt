@@ -1,7 +1,6 @@
 -- Within the limit the product fits.
 -- Assumes nothing.
-use borrow.Author.Tests.{lt-ltb, le-ltb, le-leb, lt-leb, eq-eqb, ne-eqb}
-use mathlib.Core.Path.{refl, sym, ap, _∙_}
+use borrow.Author.Tests.{lt-ltb, le-ltb, le-leb, lt-leb}
 use borrow.Author.Needs.{needs}
 use Rattle.judge.proofs.ranges.counted.Statement.{statement}
 use Rattle.judge.proofs.ranges.counted.Tie as tie

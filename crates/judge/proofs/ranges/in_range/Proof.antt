@@ -1,7 +1,5 @@
 -- The ranges one after the other.
 -- Assumes nothing.
-use borrow.Author.Tests.{lt-ltb, le-ltb, le-leb, lt-leb, eq-eqb, ne-eqb}
-use mathlib.Core.Path.{refl, sym, ap, _∙_}
 use Rattle.judge.specs.Ranges.{inRange}
 use borrow.Author.Needs.{needs}
 use Rattle.judge.proofs.ranges.in_range.Statement.{statement}

@@ -1,7 +1,6 @@
 -- A deadline before the edge; the record; a deadline at the edge.
 -- Assumes nothing.
-use borrow.Author.Tests.{lt-ltb, le-ltb, le-leb, lt-leb, eq-eqb, ne-eqb}
-use mathlib.Core.Path.{refl, sym, ap, _∙_}
+use borrow.Author.Tests.{lt-ltb, le-ltb, le-leb}
 use Rattle.judge.specs.Step.{saysBy}
 use borrow.Author.Needs.{needs}
 use Rattle.judge.proofs.says.says.Statement.{statement}

@@ -1,7 +1,5 @@
 -- The record's break, the deadlines, and what all banks share.
 -- Assumes nothing.
-use borrow.Author.Tests.{lt-ltb, le-ltb, le-leb, lt-leb, eq-eqb, ne-eqb}
-use mathlib.Core.Path.{refl, sym, ap, _∙_}
 use Rattle.judge.specs.Step.{turnOf}
 use borrow.Author.Needs.{needs}
 use Rattle.judge.proofs.says.turn.Statement.{statement}

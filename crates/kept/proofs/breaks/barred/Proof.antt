@@ -1,7 +1,5 @@
 -- What the command wants, of the bank's status.
 -- Assumes nothing.
-use borrow.Author.Tests.{lt-ltb, le-ltb, le-leb, lt-leb, eq-eqb, ne-eqb}
-use mathlib.Core.Path.{refl, sym, ap, _∙_}
 use borrow.Author.Needs.{needs}
 use Rattle.kept.proofs.breaks.barred.Statement.{statement}
 use Rattle.kept.proofs.breaks.barred.Tie as tie

@@ -1,7 +1,6 @@
 -- By the bank's case.
 -- Assumes nothing.
-use mathlib.Core.Path.{refl, sym, ap, _∙_}
-use Rattle.answers.specs.declared.Bank.{Bank}
+use mathlib.Core.Path.{sym, ap, _∙_}
 use Rattle.kept.specs.Breaks.{barredBy}
 use borrow.Author.Needs.{needs}
 use Rattle.kept.proofs.breaks.barred_by.Statement.{statement}

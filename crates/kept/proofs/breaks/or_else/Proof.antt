@@ -1,6 +1,6 @@
 -- The first that is broken.
 -- Assumes nothing.
-use mathlib.Core.Path.{refl, sym, ap, _∙_}
+use mathlib.Core.Path.{sym, ap}
 use Rattle.answers.specs.declared.Break.{Break}
 use Rattle.kept.specs.Breaks.{orElse}
 use borrow.Author.Needs.{needs}

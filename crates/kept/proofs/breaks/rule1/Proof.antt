@@ -1,7 +1,6 @@
 -- A forbidden change of CKE.
 -- Assumes nothing.
-use borrow.Author.Tests.{lt-ltb, le-ltb, le-leb, lt-leb, eq-eqb, ne-eqb}
-use mathlib.Core.Path.{refl, sym, ap, _∙_}
+use borrow.Author.Tests.{eq-eqb, ne-eqb}
 use borrow.Author.Needs.{needs}
 use Rattle.kept.proofs.breaks.rule1.Statement.{statement}
 use Rattle.kept.proofs.breaks.rule1.Tie as tie

@@ -1,8 +1,5 @@
 -- Rule 2, where it is broken.
 -- Assumes nothing.
-use borrow.Author.Tests.{lt-ltb, le-ltb, le-leb, lt-leb, eq-eqb, ne-eqb}
-use mathlib.Core.Path.{refl, sym, ap, _∙_}
-use borrow.Author.Needs.{needs}
 use Rattle.kept.proofs.breaks.two_if.Statement.{statement}
 use Rattle.kept.proofs.breaks.two_if.Tie as tie
 

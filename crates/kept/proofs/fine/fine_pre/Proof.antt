@@ -1,5 +1,5 @@
 use Rattle.kept.specs.Fine.{finePre}
-use borrow.Author.Tests.{lt-ltb, le-ltb, eq-eqb, ne-eqb}
+use borrow.Author.Tests.{eq-eqb, ne-eqb}
 use borrow.Author.Needs.{needs}
 use Rattle.kept.proofs.fine.fine_pre.Statement.{statement}
 use Rattle.kept.proofs.fine.fine_pre.Tie as tie

@@ -1,5 +1,3 @@
-use Rattle.kept.specs.Fine.{met, metBy}
-use borrow.Author.Tests.{lt-ltb, le-ltb, eq-eqb, ne-eqb}
 use borrow.Author.Needs.{needs}
 use Rattle.kept.proofs.fine.met_by.Statement.{statement}
 use Rattle.kept.proofs.fine.met_by.Tie as tie

@@ -1,8 +1,6 @@
 -- A mark of no record needs nothing.
 -- Assumes nothing.
-use borrow.Author.Needs.{needs}
-use borrow.Author.Tests.{lt-ltb, le-ltb, le-leb, lt-leb, eq-eqb, ne-eqb}
-use mathlib.Core.Path.{refl, sym, ap, _∙_}
+use borrow.Author.Tests.{eq-eqb, ne-eqb}
 use Rattle.kept.specs.Marks.{needing}
 use Rattle.kept.proofs.spaced.needing.Statement.{statement}
 use Rattle.kept.proofs.spaced.needing.Tie as tie

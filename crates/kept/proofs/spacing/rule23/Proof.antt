@@ -1,8 +1,7 @@
 -- An SRX later than the latest REF.
 -- Assumes nothing.
 use borrow.Author.Needs.{needs}
-use borrow.Author.Tests.{lt-ltb, le-ltb, le-leb, lt-leb, eq-eqb, ne-eqb}
-use mathlib.Core.Path.{refl, sym, ap, _∙_}
+use borrow.Author.Tests.{lt-ltb, le-ltb}
 use Rattle.kept.proofs.spacing.rule23.Statement.{statement}
 use Rattle.kept.proofs.spacing.rule23.Tie as tie
 

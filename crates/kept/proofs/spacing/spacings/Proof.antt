@@ -1,6 +1,6 @@
 -- By the command.
 -- Assumes nothing.
-use mathlib.Core.Path.{refl, sym, ap, _∙_}
+use mathlib.Core.Path.{sym, ap, _∙_}
 use Rattle.records.specs.declared.Command.{Command}
 use Rattle.kept.specs.Breaks.{spacings}
 use borrow.Author.Needs.{needs}

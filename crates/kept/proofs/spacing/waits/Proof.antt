@@ -1,7 +1,5 @@
 -- Four rules, the lowest first.
 -- Assumes nothing.
-use borrow.Author.Tests.{lt-ltb, le-ltb, le-leb, lt-leb, eq-eqb, ne-eqb}
-use mathlib.Core.Path.{refl, sym, ap, _∙_}
 use Rattle.kept.specs.Breaks.{waits}
 use borrow.Author.Needs.{needs}
 use Rattle.kept.proofs.spacing.waits.Statement.{statement}

@@ -4,7 +4,7 @@ use Prim.Native.Nat.{_%_}
 use mathlib.Core.Bool.{true, false, _&&_}
 use lib.Dec.{eqb}
 use Rattle.next.proofs.Marking.{mrs-after}
-use mathlib.Core.Path.{refl, sym, ap, _∙_}
+use mathlib.Core.Path.{refl, ap}
 use borrow.Author.Needs.{needs}
 use Rattle.next.proofs.after.after_mrs.Statement.{statement}
 use Rattle.next.proofs.after.after_mrs.Tie as tie

@@ -1,7 +1,6 @@
 -- Of equals the later.
 -- Assumes nothing.
-use borrow.Author.Tests.{lt-ltb, le-ltb, le-leb, lt-leb, eq-eqb, ne-eqb}
-use mathlib.Core.Path.{refl, sym, ap, _∙_}
+use borrow.Author.Tests.{lt-ltb, le-ltb, le-leb, lt-leb}
 use borrow.Author.Needs.{needs}
 use Rattle.next.proofs.after.later_start.Statement.{statement}
 use Rattle.next.proofs.after.later_start.Tie as tie

@@ -1,7 +1,5 @@
 -- One register is written.
 -- Assumes nothing.
-use borrow.Author.Tests.{lt-ltb, le-ltb, le-leb, lt-leb, eq-eqb, ne-eqb}
-use mathlib.Core.Path.{refl, sym, ap, _∙_}
 use borrow.Author.Needs.{needs}
 use Rattle.next.proofs.after.regs_set.Statement.{statement}
 use Rattle.next.proofs.after.regs_set.Tie as tie

@@ -1,7 +1,5 @@
 -- A PRE of all.
 -- Assumes nothing.
-use borrow.Author.Tests.{lt-ltb, le-ltb, le-leb, lt-leb, eq-eqb, ne-eqb}
-use mathlib.Core.Path.{refl, sym, ap, _∙_}
 use Rattle.next.specs.Next.{keptShut}
 use borrow.Author.Needs.{needs}
 use Rattle.next.proofs.bank.kept_shut.Statement.{statement}

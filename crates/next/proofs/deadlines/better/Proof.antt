@@ -1,8 +1,5 @@
 -- The sooner due edge after lo.
 -- Assumes nothing.
-use borrow.Author.Needs.{needs}
-use borrow.Author.Tests.{lt-ltb, le-ltb, le-leb, lt-leb, eq-eqb, ne-eqb}
-use mathlib.Core.Path.{refl, sym, ap, _∙_}
 use Rattle.next.specs.Late.{better}
 use Rattle.next.proofs.deadlines.better.Statement.{statement}
 use Rattle.next.proofs.deadlines.better.Tie as tie

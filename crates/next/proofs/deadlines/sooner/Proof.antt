@@ -1,8 +1,6 @@
 -- Of equals the first.
 -- Assumes nothing.
-use borrow.Author.Needs.{needs}
-use borrow.Author.Tests.{lt-ltb, le-ltb, le-leb, lt-leb, eq-eqb, ne-eqb}
-use mathlib.Core.Path.{refl, sym, ap, _∙_}
+use borrow.Author.Tests.{lt-ltb, le-ltb, le-leb, lt-leb}
 use Rattle.next.specs.Late.{sooner}
 use Rattle.next.proofs.deadlines.sooner.Statement.{statement}
 use Rattle.next.proofs.deadlines.sooner.Tie as tie

@@ -1,7 +1,6 @@
 -- A deadline at the edge itself.
 -- Assumes nothing.
-use borrow.Author.Tests.{lt-ltb, le-ltb, le-leb, lt-leb, eq-eqb, ne-eqb}
-use mathlib.Core.Path.{refl, sym, ap, _∙_}
+use borrow.Author.Tests.{eq-eqb, ne-eqb}
 use borrow.Author.Needs.{needs}
 use Rattle.next.proofs.says.late_at.Statement.{statement}
 use Rattle.next.proofs.says.late_at.Tie as tie

@@ -1,6 +1,6 @@
 -- The record's break, or the deadline's.
 -- Assumes nothing.
-use mathlib.Core.Path.{refl, sym, ap, _∙_}
+use mathlib.Core.Path.{sym, ap, _∙_}
 use Rattle.answers.specs.declared.Break.{Break}
 use Rattle.next.specs.Said.{say}
 use borrow.Author.Needs.{needs}

@@ -1,7 +1,6 @@
 -- No break yet, or the break.
 -- Assumes nothing.
-use mathlib.Core.Path.{refl, sym, ap, _∙_}
-use Rattle.answers.specs.declared.Break.{Break}
+use mathlib.Core.Path.{sym, ap, _∙_}
 use Rattle.next.specs.Said.{verdictAt}
 use borrow.Author.Needs.{needs}
 use Rattle.next.proofs.says.verdict_at.Statement.{statement}

@@ -1,6 +1,6 @@
 -- CL less the code, never below 0.
 -- Assumes nothing.
-use borrow.Author.Tests.{lt-ltb, le-ltb, eq-eqb, ne-eqb}
+use borrow.Author.Tests.{eq-eqb, ne-eqb}
 use Rattle.registers.specs.Codes.{al}
 use native.Mathlib.Omega.{arith}
 use borrow.Author.Needs.{needs}

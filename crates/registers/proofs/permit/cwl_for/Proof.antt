@@ -1,8 +1,7 @@
 -- The periods from the longest down.
 -- Assumes nothing.
-use borrow.Author.Needs.{needs}
 use Rattle.registers.specs.Allowed.{cwlFor}
-use borrow.Author.Tests.{lt-leb, le-leb, eq-eqb, ne-eqb}
+use borrow.Author.Tests.{lt-leb, le-leb}
 use Rattle.registers.proofs.permit.cwl_for.Statement.{statement}
 use Rattle.registers.proofs.permit.cwl_for.Tie as tie
 

@@ -1,7 +1,7 @@
 -- By the register's number.
 -- Assumes nothing.
 use Rattle.registers.specs.Reading.{fieldsOf}
-use borrow.Author.Tests.{lt-ltb, le-ltb, eq-eqb, ne-eqb}
+use borrow.Author.Tests.{eq-eqb, ne-eqb}
 use borrow.Author.Needs.{needs}
 use Rattle.registers.proofs.reading.fields.Statement.{statement}
 use Rattle.registers.proofs.reading.fields.Tie as tie

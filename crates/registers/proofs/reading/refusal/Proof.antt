@@ -2,7 +2,6 @@
 -- Assumes nothing.
 use Rattle.registers.proofs.Answers.{by-case}
 use mathlib.Core.Path.{_∙_}
-use Rattle.registers.specs.Reading.{registerRefusal}
 use borrow.Author.Needs.{needs}
 use Rattle.registers.proofs.reading.refusal.Statement.{statement}
 use Rattle.registers.proofs.reading.refusal.Tie as tie

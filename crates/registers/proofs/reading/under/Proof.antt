@@ -1,7 +1,6 @@
 -- Check 11.
 -- Assumes nothing.
 use Rattle.registers.specs.Reading.{codeRefusal}
-use borrow.Author.Tests.{lt-ltb, le-ltb, eq-eqb, ne-eqb}
 use borrow.Author.Needs.{needs}
 use Rattle.registers.proofs.reading.under.Statement.{statement}
 use Rattle.registers.proofs.reading.under.Tie as tie

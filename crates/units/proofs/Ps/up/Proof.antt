@@ -3,7 +3,6 @@
 use borrow.Author.Needs.{needs}
 use borrow.Author.Tests.{eq-eqb, ne-eqb}
 use native.Mathlib.Omega.{arith}
-use Prim.Native.Nat.{_+_, _/_, _≤_}
 use Rattle.units.specs.Round.{up}
 use Rattle.units.proofs.Rounding.{up-most}
 use Rattle.units.proofs.Ps.up.Statement.{statement}
