@@ -1,13 +1,11 @@
+-- The words of a broken verdict, one after the other.
+-- Assumes nothing.
 use native.Mathlib.Omega.{arith}
 use Rattle.lines.specs.Line.{brokenWords}
 use Rattle.lines.proofs.Texts.{more}
 use borrow.Author.Needs.{needs}
 use Rattle.lines.proofs.broken.Statement.{statement}
 use Rattle.lines.proofs.broken.Tie as tie
-use Rattle.lines.proofs.broken.Reads as reads
-use Rattle.lines.proofs.broken.Lts as lts
-use Rattle.lines.proofs.number.Reads as number-reads
-use Rattle.lines.proofs.put.Reads as put-reads
 
 slice-aggregate-put : tie.Need-slice-aggregate-put
 slice-aggregate-put c = search needs

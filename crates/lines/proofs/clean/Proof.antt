@@ -1,13 +1,11 @@
+-- The words of a clean verdict, one after the other.
+-- Assumes nothing.
 use native.Mathlib.Omega.{arith}
 use Rattle.lines.specs.Line.{cleanWords}
 use Rattle.lines.proofs.Texts.{more}
 use borrow.Author.Needs.{needs}
 use Rattle.lines.proofs.clean.Statement.{statement}
 use Rattle.lines.proofs.clean.Tie as tie
-use Rattle.lines.proofs.clean.Reads as reads
-use Rattle.lines.proofs.clean.Lts as lts
-use Rattle.lines.proofs.number.Reads as number-reads
-use Rattle.lines.proofs.put.Reads as put-reads
 
 slice-aggregate-put : tie.Need-slice-aggregate-put
 slice-aggregate-put c = search needs

@@ -1,11 +1,10 @@
+-- A text is copied behind what is there.
+-- Assumes nothing.
 use native.Mathlib.Omega.{arith}
 use Rattle.lines.proofs.Texts.{copied}
 use borrow.Author.Needs.{needs}
 use Rattle.lines.proofs.put.Statement.{statement}
 use Rattle.lines.proofs.put.Tie as tie
-use Rattle.lines.proofs.put.Reads as reads
-use Rattle.lines.proofs.put.Lts as lts
-use Rattle.bytes.proofs.copy.Reads as copy-reads
 
 sub-copy : tie.Need-sub-copy
 sub-copy c = search needs

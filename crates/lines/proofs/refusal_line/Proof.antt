@@ -1,12 +1,10 @@
+-- The line of a refusal: its word, its number and the end.
+-- Assumes nothing.
 use Rattle.lines.specs.Line.{refusalLine}
 use Rattle.lines.proofs.Texts.{more, printed, counted}
 use borrow.Author.Needs.{needs}
 use Rattle.lines.proofs.refusal_line.Statement.{statement}
 use Rattle.lines.proofs.refusal_line.Tie as tie
-use Rattle.lines.proofs.refusal_line.Reads as reads
-use Rattle.lines.proofs.refusal_line.Lts as lts
-use Rattle.lines.proofs.number.Reads as number-reads
-use Rattle.lines.proofs.put.Reads as put-reads
 
 slice-aggregate-put : tie.Need-slice-aggregate-put
 slice-aggregate-put c = search needs

@@ -1,11 +1,9 @@
+-- The line of a verdict: its words and the end.
+-- Assumes nothing.
 use Rattle.lines.proofs.Texts.{more, printed, at-start, counted}
 use borrow.Author.Needs.{needs}
 use Rattle.lines.proofs.verdict_line.Statement.{statement}
 use Rattle.lines.proofs.verdict_line.Tie as tie
-use Rattle.lines.proofs.verdict_line.Reads as reads
-use Rattle.lines.proofs.verdict_line.Lts as lts
-use Rattle.lines.proofs.put.Reads as put-reads
-use Rattle.lines.proofs.verdict_words.Reads as verdict-words-reads
 
 verdict-words-requires : tie.Need-verdict-words-requires
 verdict-words-requires c κs = search needs

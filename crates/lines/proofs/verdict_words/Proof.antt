@@ -1,13 +1,11 @@
+-- The words, by the outcome.
+-- Assumes nothing.
 use borrow.Author.Tests.{eq-eqb, ne-eqb}
 use Rattle.lines.specs.Line.{verdictWords}
 use Rattle.lines.proofs.Texts.{printed, counted}
 use borrow.Author.Needs.{needs}
 use Rattle.lines.proofs.verdict_words.Statement.{statement}
 use Rattle.lines.proofs.verdict_words.Tie as tie
-use Rattle.lines.proofs.verdict_words.Reads as reads
-use Rattle.lines.proofs.verdict_words.Lts as lts
-use Rattle.lines.proofs.broken.Reads as broken-reads
-use Rattle.lines.proofs.clean.Reads as clean-reads
 
 clean-requires : tie.Need-clean-requires
 clean-requires c κs = search needs

@@ -1,3 +1,5 @@
+-- No rule is in the way of an ACT: each test that fails says so, and the last one decides.
+-- Assumes nothing.
 use Rattle.kept.specs.Fine.{fineAct}
 use borrow.Author.Tests.{eq-eqb, ne-eqb}
 use borrow.Author.Needs.{needs}

@@ -1,3 +1,5 @@
+-- No rule is in the way of a PRE of one bank.
+-- Assumes nothing.
 use Rattle.kept.specs.Fine.{finePre}
 use borrow.Author.Tests.{eq-eqb, ne-eqb}
 use borrow.Author.Needs.{needs}

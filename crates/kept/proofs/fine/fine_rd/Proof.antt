@@ -1,3 +1,5 @@
+-- No rule is in the way of a RD.
+-- Assumes nothing.
 use Rattle.kept.specs.Fine.{fineRd}
 use borrow.Author.Tests.{eq-eqb, ne-eqb}
 use borrow.Author.Needs.{needs}

@@ -1,3 +1,5 @@
+-- The clocks since a mark, against a need of the rule's own.
+-- Assumes nothing.
 use borrow.Author.Needs.{needs}
 use Rattle.kept.proofs.fine.met_by.Statement.{statement}
 use Rattle.kept.proofs.fine.met_by.Tie as tie
