@@ -1,15 +1,27 @@
--- The bytes of a verdict and the fields of a bank: 01, "The recording", below the table of refusals.
+-- The first of several breaks, the bytes of a verdict and the fields of a bank: 01, "The recording", below the table of refusals.
 -- Assumes nothing.
-use Prim.Native.Nat.{ℕ, _/_, _%_}
+use Prim.Native.Nat.{ℕ, zero, suc, _/_, _%_}
 use mathlib.Core.Bool.{cond}
 use mathlib.Core.List.{List, [], _∷_}
 use lib.Dec.{ltb}
 use lib.ListN.{length}
 use Rattle.laws.specs.Lent.{Wrote}
+use Rattle.answers.specs.declared.Break.{Break}
+use Rattle.answers.specs.declared.Break.the-variants.{Fine, Broken}
 use Rattle.answers.specs.declared.Bank.{Bank}
 use Rattle.answers.specs.declared.Bank.the-variants.{Idle, Open, Closing}
 use Rattle.answers.specs.declared.Shown.{Shown}
 use Rattle.answers.specs.declared.Verdict.{Verdict}
+
+-- the first of two breaks
+unfoldable pub orElse : Break → Break → Break
+orElse Fine c = c
+orElse (Broken rule partner needed found) c = Broken rule partner needed found
+
+-- the first break of the banks below n
+unfoldable pub lowest : (ℕ → Break) → ℕ → Break
+lowest f zero = Fine
+lowest f (suc n) = orElse (lowest f n) (f n)
 
 -- a number in 8, 24 and 48 bits, most significant first
 abbrev pub bytes1 : ℕ → List ℕ → List ℕ

@@ -1,4 +1,4 @@
-// What a judge answers: what a record or an edge breaks, a bank, a verdict with its 20 bytes.
+// What a judge answers: what a record or an edge breaks, a bank, a register, a verdict with its 20 bytes, what stands at the end.
 mod report;
 
 pub use report::put_verdict;
@@ -38,6 +38,20 @@ pub struct Verdict {
     pub edge: u64,
     pub needed: u64,
     pub found: u64,
+}
+
+// A mode register: unwritten, or its last code.
+pub struct Register {
+    pub written: bool,
+    pub code: u16,
+}
+
+// What stands at the end edge. owed is the refresh debt + 8.
+pub struct End {
+    pub verdict: Verdict,
+    pub banks: [Shown; 8],
+    pub registers: [Register; 4],
+    pub owed: u64,
 }
 
 // The bank as it is answered.

@@ -17,9 +17,11 @@ use Rattle.answers.specs.declared.Break.the-variants.{Fine}
 use Rattle.answers.specs.declared.Verdict.{Verdict}
 use Rattle.rules.specs.Past.{Past, number, upTo}
 use Rattle.rules.specs.Banks.{status}
-use Rattle.rules.specs.Search.{orElse, lowest}
+use Rattle.answers.specs.Answer.{orElse, lowest}
+use Rattle.rules.specs.Rules.{checks, breakAt}
 use Rattle.rules.specs.Deadlines.{late, rule25}
-use Rattle.rules.specs.Verdict.{Outcome, clean, recordAt, numberAt, say, keep, verdictTo, shown}
+use Rattle.rules.specs.Verdict.{Outcome, clean, keep, told, recordSays, verdictTo, shown}
+use Rattle.rules.proofs.Numbered.{by-number}
 use Rattle.cases.specs.Case.{Holds, judged}
 
 not-late : (m t : ℕ) (k : Bank) → t ≤ m → late m k t ≡ Fine
@@ -36,15 +38,15 @@ module _ (C : Chip) (p : Past) where
   -- the first broken edge from 1 to t, leaving rule 24 aside
   unfoldable pub early : ℕ → Outcome
   early zero = clean
-  early (suc t) = keep (early t) (say (suc t) (numberAt p (suc t)) (recordAt C p (suc t)) (rule25 C p (suc t)))
+  early (suc t) = keep (early t) (keep (recordSays (breakAt (checks C)) p (suc t)) (told (suc t) 0 (rule25 C p (suc t))))
 
   early-verdict : (t : ℕ) → t ≤ C .most → verdictTo C p t ≡ early t
-  unfolding verdictTo early orElse
+  unfolding verdictTo early keep
   early-verdict zero l = refl
-  early-verdict (suc t) l = λ i. keep
-      (early-verdict t (omega arith) i)
-      (say (suc t) (numberAt p (suc t)) (recordAt C p (suc t))
-      (orElse (none-late (C .most) (suc t) 8 (λ n. status C n (upTo (suc t - 1) p) (suc t - 1)) l i) (rule25 C p (suc t))))
+  early-verdict (suc t) l =
+      (λ i. keep (early-verdict t (omega arith) i) (by-number C p (suc t) i))
+      ∙ ap (λ b. keep (early t) (keep (recordSays (breakAt (checks C)) p (suc t)) (keep (told (suc t) 0 b) (told (suc t) 0 (rule25 C p (suc t))))))
+      (none-late (C .most) (suc t) 8 (λ n. status C n (upTo (suc t - 1) p) (suc t - 1)) l)
 
 pub judged-early : (h : Header) (bytes : List ℕ) (end : ℕ) (v : Verdict) → leb end (chipOf h .most) ≡ true
     → shown (early (chipOf h) (reverse (records bytes)) end) (number (reverse (records bytes))) end ≡ v → Holds (judged h bytes end v)

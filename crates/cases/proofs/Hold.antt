@@ -5,7 +5,7 @@ use Rattle.units.specs.Round.{up, down}
 use Rattle.bits.specs.Bits.{word48}
 use Rattle.header.specs.Bins.{binOf}
 use Rattle.header.specs.Bytes.{headerWord, fieldsRefusal, headerRefusal, parsedOf}
-use Rattle.registers.specs.Codes.{clOfCode, wrOfCode, al}
+use Rattle.codes.specs.Codes.{clOfCode, wrOfCode, al}
 use Rattle.registers.specs.Allowed.{spanOf, clFits, cwlFor, allowed0, allowed1, allowed2, allowed}
 use Rattle.registers.specs.Reading.{fields0, fieldsOf}
 use Rattle.bursts.specs.Burst.{orderOf}
@@ -15,7 +15,7 @@ use Rattle.chip.specs.Chip.{chipOf}
 use Rattle.chip.specs.Latencies.{hOf, bOf}
 use Rattle.rules.specs.Registers.{regs}
 use Rattle.rules.specs.Banks.{start, seen}
-use Rattle.rules.specs.Search.{orElse, lowest}
+use Rattle.answers.specs.Answer.{orElse, lowest}
 use Rattle.rules.specs.Deadlines.{asleep, awakeTo, awakeAt, owedTo, owedAt}
 use Rattle.rules.specs.Verdict.{keep}
 use Rattle.cases.specs.Case.{AllHold}

@@ -3,7 +3,7 @@
 use Prim.Native.Nat.{ℕ}
 use mathlib.Core.Bool.{cond}
 use lib.Dec.{eqb}
-use Rattle.registers.specs.Codes.{set, burst, al, cl, cwl, wr}
+use Rattle.codes.specs.Codes.{set, burst, al, cl, cwl, wr}
 use Rattle.chip.specs.declared.Regs.{Regs}
 
 abbrev pub alOf : Regs → ℕ

@@ -8,21 +8,21 @@ pub fn al_of(g: Regs) -> u32
     ensures { λ r. ⌜ r ≡ alOf g ⌝ }
     ensures { λ r. ⌜ r ≤ 255 ⌝ }
 {
-    wide(registers::al(g.mr0, g.mr1))
+    wide(codes::al(g.mr0, g.mr1))
 }
 
 pub fn cl_of(g: Regs) -> u32
     ensures { λ r. ⌜ r ≡ clOf g ⌝ }
     ensures { λ r. ⌜ r ≤ 255 ⌝ }
 {
-    wide(registers::cl(g.mr0))
+    wide(codes::cl(g.mr0))
 }
 
 pub fn cwl_of(g: Regs) -> u32
     ensures { λ r. ⌜ r ≡ cwlOf g ⌝ }
     ensures { λ r. ⌜ r ≤ 255 ⌝ }
 {
-    wide(registers::cwl(g.mr2))
+    wide(codes::cwl(g.mr2))
 }
 
 // Programmed write recovery.
@@ -30,7 +30,7 @@ pub fn wr_of(g: Regs) -> u32
     ensures { λ r. ⌜ r ≡ wrOf g ⌝ }
     ensures { λ r. ⌜ r ≤ 255 ⌝ }
 {
-    wide(registers::wr(g.mr0))
+    wide(codes::wr(g.mr0))
 }
 
 // h of a write: 4, but 2 where MR0 fixes four; a chop by A12 does not shorten it.

@@ -15,8 +15,8 @@ use Rattle.judge.specs.declared.Opened.{Opened}
 use Rattle.judge.specs.declared.Taken.{Taken}
 use Rattle.judge.specs.declared.Closed.{Closed}
 use Rattle.judge.specs.Calls.{openOf, sectionOf, closeOf}
-use Rattle.rules.specs.Recording.{wholeRefusal, judgeCode}
-use Rattle.rules.proofs.Recordings.{too-short, refusal-most, not-opened, not-taken, closed-number, closed-verdict}
+use Rattle.sections.specs.Recording.{wholeRefusal, judgeCode}
+use Rattle.sections.proofs.Recordings.{too-short, refusal-most, not-opened, not-taken, closed-number, closed-verdict}
 use Rattle.firmware.specs.Calls.{Judge, Judged}
 
 module _ (bs : List ℕ) (end : ℕ) where
@@ -75,11 +75,11 @@ module _ (bs : List ℕ) (end : ℕ) where
         pub by-close : (r : ℕ) (v : Verdict) → (c .refused ≡ 0 → ⊥) → r ≡ c .refused → Judged bs end r v
         by-close r v n e = alone _ r v e closes n
 
-        pub by-verdict : (v : Verdict) → c .refused ≡ 0 → v ≡ c .verdict → Judged bs end 0 v
+        pub by-verdict : (v : Verdict) → c .refused ≡ 0 → v ≡ c .end .verdict → Judged bs end 0 v
         by-verdict v n e = record {
           number = sym n ∙ closes;
           found = λ _.
-              e ∙ ap (λ (x : Closed). x .verdict) close-is
+              e ∙ ap (λ (x : Closed). x .end .verdict) close-is
               ∙ closed-verdict bs end opened taken (sym (ap (λ (x : Closed). x .refused) close-is) ∙ n);
         }
 

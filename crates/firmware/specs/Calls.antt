@@ -10,7 +10,7 @@ use Rattle.registers.specs.Reading.{readCode, fieldsOf}
 use Rattle.bursts.specs.Burst.{codeOf, orderOf}
 use Rattle.answers.specs.declared.Verdict.{Verdict}
 use Rattle.answers.specs.Answer.{verdictBytes}
-use Rattle.rules.specs.Recording.{judgeCode, wholeRefusal, wholeVerdict}
+use Rattle.sections.specs.Recording.{judgeCode, wholeRefusal, wholeVerdict}
 
 -- "register reading 9, 1, 2, 3, 4, 11", and six bytes
 abbrev pub Register : (header : List ℕ) (number code : ℕ) (before : List ℕ) (r : ℕ) (after : List ℕ) → Type 0

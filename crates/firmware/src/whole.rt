@@ -33,7 +33,7 @@ pub(crate) fn judged(recording: &[u8], end: u64) -> Whole
     if closed.refused != 0 {
         return refused(closed.refused);
     }
-    let verdict = closed.verdict;
+    let verdict = closed.end.verdict;
     Whole {
         refused: 0,
         verdict: verdict,

@@ -1,9 +1,3 @@
-pub mod Sections
 pub mod Ranging
-pub mod Folds
-pub mod Asking
-pub mod Easing
-pub mod Running
-pub mod Turning
-pub mod Closing
+pub mod Zeros
 pub mod Answers

@@ -1,235 +1,41 @@
--- The ranges of check 17 as facts, and that a record keeps them.
+-- The ranges of check 17 as facts, and what a state in range has of its rank.
 -- Assumes nothing.
-use Prim.Native.Nat.{ℕ, zero, suc, _+_, _*_, _-_, _≤_, _<_, max}
-use native.Mathlib.Nat.{mod-lt}
-use native.Mathlib.Omega.{arith}
-use native.Mathlib.Decide.{ℕ-discrete}
-use mathlib.Core.Bool.{Bool, true, false, cond, _&&_}
+use Prim.Native.Nat.{ℕ, _+_, _/_, _%_, _≤_}
+use mathlib.Core.Bool.{true, false, _||_}
 use mathlib.Core.List.{List}
-use mathlib.Core.Path.{_≡_, refl, sym, subst}
-use lib.Dec.{eqb, leb, ltb}
-use lib.ListN.{getD, set}
-use borrow.Author.Tests.{leb-true, ltb-true, ltb-false, leb-false, eqb-true}
-use Rattle.kept.proofs.Both.{both}
-use Rattle.laws.specs.Eight.{table}
-use Rattle.laws.proofs.Eight.{getD-table, at-set}
-use Rattle.header.specs.declared.Header.{Header}
+use mathlib.Core.Path.{_≡_}
+use lib.Dec.{ltb}
+use lib.ListN.{length}
+use borrow.Author.Tests.{leb-true}
 use Rattle.header.specs.Counts.{tREFI}
-use Rattle.header.proofs.Bounds.{bounds}
-use Rattle.answers.specs.declared.Break.{Break}
-use Rattle.answers.specs.declared.Break.the-variants.{Fine, Broken}
-use Rattle.answers.specs.declared.Verdict.{Verdict}
-use Rattle.records.specs.declared.Record.{Record}
-use Rattle.records.specs.declared.Command.{Command}
-use Rattle.records.specs.declared.Command.the-variants.{Act}
-use Rattle.records.specs.Command.{isA, bankIn}
-use Rattle.chip.specs.declared.Chip.{Chip}
-use Rattle.chip.specs.declared.Regs.{Regs}
+use Rattle.records.specs.Record.{records}
 use Rattle.chip.specs.Chip.{chipOf}
-use Rattle.chip.specs.Latencies.{alOf}
-use Rattle.kept.specs.declared.Kept.{Kept}
-use Rattle.kept.specs.Marks.{empty}
-use Rattle.kept.specs.Breaks.{orElse, joined, rule2, rule3, spacings}
-use Rattle.next.specs.declared.Late.{Late}
-use Rattle.next.specs.declared.Pick.{Pick}
+use Rattle.running.specs.Step.{foldOf}
+use Rattle.running.specs.Ranges.{limit, lastEdge, rankInRange}
+use Rattle.running.specs.Ends.{takenOf, endOf, endedOf}
+use Rattle.running.proofs.Both.{both}
+use Rattle.running.proofs.Ranging.{small}
+use Rattle.running.proofs.Ends.{taken-folds, ended-ends}
 use Rattle.judge.specs.declared.State.{State}
-use Rattle.next.specs.Next.{keptNext, keptShut, banksNext, debtNext, markedNext, sharedNext, preAll, passed}
-use Rattle.next.specs.Late.{why, sooner, late25, better, soonest}
-use Rattle.judge.specs.Deadlines.{owing, next24}
-use Rattle.next.specs.Said.{say, verdictAt, lateAt}
-use Rattle.judge.specs.Step.{saysBy, isClean, turnOf, turnIn, movedOf, stoppedOf, stepOf, commandIn, ownBank}
-use Rattle.judge.specs.Ranges.{limit, lastEdge, bankOk, banksOk, counted, inRange, Small, Ranged}
-
--- ── From the test to the facts ──────────────────────────────────────────────────────────────
-
-banks-at : (ks : List Kept) (n : ℕ) → banksOk ks n ≡ true → (b : ℕ) → b < n → getD ks b empty .acted .at ≤ lastEdge
-unfolding banksOk
-banks-at ks zero h b l = absurd (omega arith)
-banks-at ks (suc n) h b l =
-    let w = both (banksOk ks n) (bankOk (getD ks n empty)) h in
-    elim (ℕ-discrete b n) [
-      | yes e ↦ subst (λ (m : ℕ). getD ks m empty .acted .at ≤ lastEdge) (sym e) (leb-true _ _ (w .1))
-      | no e ↦ banks-at ks n (w .0) b (omega arith)
-    ]
+use Rattle.judge.specs.Ranges.{inRange}
 
 -- what the test tells
 pub record Tested (s : State) : Type 0 where
   pub bin : s .header .bin ≤ 3
   pub some : 1 ≤ tREFI (s .header) .clocks
-  pub count : s .count ≤ limit
-  pub range : Ranged s
-
-count-facts : (count edge : ℕ) → counted count edge ≡ true → (count ≤ limit) × (edge ≤ count * 16777216)
-count-facts count edge h = go (ltb limit count) refl h
-  where
-    go : (x : Bool) → ltb limit count ≡ x → cond x false (leb edge (count * 16777216)) ≡ true → (count ≤ limit) × (edge ≤ count * 16777216)
-    go true e z = let n : _≡_ {A = ℕ} 0 1 = cc in absurd (omega arith)
-    go false e z = (ltb-false _ _ e, leb-true _ _ z)
+  pub rank : rankInRange (s .rank) ≡ true
 
 pub tested : (s : State) → inRange s ≡ true → Tested s
 unfolding inRange
 tested s h =
     let a = both _ _ h in
-    let hd = both _ _ (a .0) in
-    let d = both _ _ (a .1) in
-    let n = count-facts (s .count) (s .edge) (d .0) in
-    let f = both _ _ (d .1) in
-    let o = both _ _ (f .0) in
-    let b = both _ _ (f .1) in
-    record {
-      bin = leb-true _ _ (hd .0);
-      some = leb-true _ _ (hd .1);
-      count = n .0;
-      range = record {
-        edge = n .1;
-        phase = leb-true _ _ (o .0);
-        owed = leb-true _ _ (o .1);
-        broke = leb-true _ _ (b .0);
-        banks = banks-at (s .banks) 8 (b .1);
-      };
-    }
+    let b = both _ _ (a .0) in
+    record { bin = leb-true _ _ (b .0); some = leb-true _ _ (b .1); rank = a .1 }
 
--- ── The chip ────────────────────────────────────────────────────────────────────────────────
+module _ (s : State) (range : inRange s ≡ true) where
+  pub takes : (bs : List ℕ) → length bs % 6 ≡ 0 → s .rank .count + length bs / 6 ≤ limit
+      → takenOf (chipOf (s .header)) (s .rank) bs ≡ foldOf (chipOf (s .header)) (s .rank) (records bs)
+  takes = let t = tested s range in taken-folds (chipOf (s .header)) (small (s .header) (t .some)) (s .rank) (t .rank)
 
-pub small : (h : Header) → 1 ≤ tREFI h .clocks → Small (chipOf h)
-unfolding chipOf
-small h l =
-    let b = bounds h in
-    record {
-      trcd = omega (arith, b .rcd);
-      trp = omega (arith, b .rp);
-      tras = omega (arith, b .ras);
-      tcke = omega (arith, b .cke);
-      trtp = omega (arith, b .rtp);
-      twtr = omega (arith, b .wtr);
-      twr = omega (arith, b .wr);
-      most = b .most;
-      trefi = omega (arith, b .refi);
-      some = l;
-    }
-
--- ── A record keeps them ─────────────────────────────────────────────────────────────────────
-
--- nothing said: at most 16 are owed
-pub says-owed : (e n : ℕ) (x24 x25 : Late) (b : Break) (owed partner : ℕ) → saysBy e n x24 x25 b owed partner .outcome ≡ 0 → owed ≤ 16
-unfolding saysBy orElse
-says-owed e n x24 x25 b owed partner h = first (ltb (sooner x24 x25 .at) e) h
-  where
-    last : (x : Bool) → leb 17 owed ≡ x → verdictAt e 0 (cond x (Broken 25 partner 8 9) Fine) .outcome ≡ 0 → owed ≤ 16
-    last true q z = let n : _≡_ {A = ℕ} 0 1 = cc in absurd (omega arith)
-    last false q z = omega (arith, leb-false 17 owed q)
-
-    third : (x : Bool) → verdictAt e 0 (orElse (cond x (why x24) Fine) (owing owed partner)) .outcome ≡ 0 → owed ≤ 16
-    third true z = let n : _≡_ {A = ℕ} 0 1 = cc in absurd (omega arith)
-    third false z = last (leb 17 owed) refl z
-
-    second : (c : Break) → say e n c (orElse (lateAt e x24) (owing owed partner)) .outcome ≡ 0 → owed ≤ 16
-    second Fine z = third (eqb (x24 .at) e) z
-    second (Broken k p m f) z = let n : _≡_ {A = ℕ} 0 1 = cc in absurd (omega arith)
-
-    first : (x : Bool) → cond x (verdictAt (sooner x24 x25 .at) 0 (why (sooner x24 x25))) (say e n b (orElse (lateAt e x24) (owing owed partner))) .outcome ≡ 0 → owed ≤ 16
-    first true z = let n : _≡_ {A = ℕ} 0 1 = cc in absurd (omega arith)
-    first false z = second b z
-
--- what is said is said of an edge up to e
-pub says-edge : (e n : ℕ) (x24 x25 : Late) (b : Break) (owed partner : ℕ) → saysBy e n x24 x25 b owed partner .edge ≤ e
-unfolding saysBy orElse
-says-edge e n x24 x25 b owed partner = first (ltb (sooner x24 x25 .at) e) refl
-  where
-    last : (x : Bool) → verdictAt e 0 (cond x (Broken 25 partner 8 9) Fine) .edge ≤ e
-    last true = omega arith
-    last false = omega arith
-
-    third : (x : Bool) → verdictAt e 0 (orElse (cond x (why x24) Fine) (owing owed partner)) .edge ≤ e
-    third true = omega arith
-    third false = last (leb 17 owed)
-
-    second : (c : Break) → say e n c (orElse (lateAt e x24) (owing owed partner)) .edge ≤ e
-    second Fine = third (eqb (x24 .at) e)
-    second (Broken k p m f) = omega arith
-
-    first : (x : Bool) → ltb (sooner x24 x25 .at) e ≡ x
-        → cond x (verdictAt (sooner x24 x25 .at) 0 (why (sooner x24 x25))) (say e n b (orElse (lateAt e x24) (owing owed partner))) .edge ≤ e
-    first true z = omega (arith, ltb-true (sooner x24 x25 .at) e z)
-    first false z = second b
-
-module _ (C : Chip) (small : Small C) where
-  pub kept-near : (c : Command) (r : Record) (e n : ℕ) (g : Regs) (k : Kept) → e ≤ lastEdge → k .acted .at ≤ lastEdge → keptNext C c r e n g k .acted .at ≤ lastEdge
-  unfolding keptNext
-  kept-near c r e n g k l m = go (isA Act c)
-    where
-      go : (x : Bool) → cond x (record { at = e; num = n; need = max (C .trcd - alOf g) 1 }) (k .acted) .at ≤ lastEdge
-      go true = l
-      go false = m
-
-  banks-near :
-      (c : Command) (r : Record) (e n : ℕ) (g : Regs) (ks : List Kept) → e ≤ lastEdge → ((b : ℕ) → b < 8 → getD ks b empty .acted .at ≤ lastEdge)
-      → (b : ℕ) → b < 8 → getD (banksNext C c r e n g ks) b empty .acted .at ≤ lastEdge
-  unfolding banksNext keptShut
-  banks-near c r e n g ks l m b h = go (preAll c r)
-    where
-      go : (x : Bool) → getD (cond x (table (λ b. keptShut C e n (getD ks b empty))) (set ks (bankIn r) (keptNext C c r e n g (getD ks (bankIn r) empty)))) b empty .acted .at ≤ lastEdge
-      go true = rw (getD-table (λ b. keptShut C e n (getD ks b empty)) b empty h) (m b h)
-      go false = at-set (λ k. k .acted .at ≤ lastEdge) empty ks (bankIn r) _ b (kept-near c r e n g _ l (m (bankIn r) (omega arith))) (m b h)
-
-  -- what one more record leaves
-  abbrev Goes : State → State → Type 0
-  Goes n m = Ranged m × (m .count ≡ n .count + 1)
-
-  module _ (n : State) (r : Record) (range : Ranged n) (more : n .count < limit) (short : r .step ≤ 16777216) where
-    stopped-goes : (v : Verdict) → v .edge ≤ lastEdge → Goes n (stoppedOf n r v)
-    unfolding stoppedOf
-    stopped-goes v l = (record { edge = omega arith; phase = range .phase; owed = range .owed; broke = l; banks = range .banks }, refl)
-
-    said-edge : turnIn C n r .verdict .edge ≤ lastEdge
-    unfolding turnIn turnOf
-    said-edge = omega (
-      arith,
-      says-edge (n .edge + r .step) (n .count + 1) (next24 C n (n .edge + r .step + 1))
-          (late25 (C .trefi) (n .shared .debt) (n .shared .rests .refreshed .num) (n .edge) (n .edge + r .step + 1))
-          (joined (commandIn n r) (rule2 (commandIn n r) r (n .banks) (n .edge + r .step)) (rule3 C (commandIn n r) r (n .shared .written))
-          (spacings C (commandIn n r) r (n .edge + r .step) (ownBank n r) (n .shared)))
-          (sharedNext C (commandIn n r) r (n .edge + r .step) (n .count + 1) (ownBank n r .acted .at) (n .shared) .debt .owed)
-          (sharedNext C (commandIn n r) r (n .edge + r .step) (n .count + 1) (ownBank n r .acted .at) (n .shared) .rests .refreshed .num),
-    )
-
-    moved-goes : turnIn C n r .verdict .outcome ≡ 0 → Goes n (movedOf C n r (turnIn C n r .shared))
-    unfolding movedOf turnIn turnOf sharedNext markedNext debtNext
-    moved-goes h = (
-      record {
-        edge = omega arith;
-        phase = omega (arith, mod-lt (passed (n .shared .debt) (r .step)) (small .some));
-        owed = omega (arith, says-owed _ _ _ _ _ _ _ h);
-        broke = range .broke;
-        banks = banks-near _ r _ _ _ (n .banks) (omega arith) (range .banks);
-      },
-      refl,
-    )
-
-    pub step-goes : Goes n (stepOf C n r)
-    unfolding stepOf
-    step-goes = go (isClean (n .first)) (isClean (turnIn C n r .verdict)) refl
-      where
-        go : (x y : Bool) → isClean (turnIn C n r .verdict) ≡ y
-            → Goes n (cond x (cond y (movedOf C n r (turnIn C n r .shared)) (stoppedOf n r (turnIn C n r .verdict))) (stoppedOf n r (n .first)))
-        go true true e = moved-goes (eqb-true _ _ e)
-        go true false e = stopped-goes (turnIn C n r .verdict) said-edge
-        go false y e = stopped-goes (n .first) (range .broke)
-
--- the bank that is picked is one of the eight
-better-bank : (lo d b m : ℕ) (k : Pick) → b ≤ m → k .bank ≤ m → better lo d b k .bank ≤ m
-unfolding better
-better-bank lo d b m k l h = go (ltb lo d && ltb d (k .at))
-  where
-    go : (x : Bool) → cond x (record { at = d; bank = b }) k .bank ≤ m
-    go true = l
-    go false = h
-
-picked-bank : (ds : List ℕ) (lo hi n : ℕ) → soonest ds lo hi (suc n) .bank ≤ n
-unfolding soonest
-picked-bank ds lo hi zero = better-bank lo (getD ds 0 0) 0 0 (record { at = hi; bank = 0 }) (omega arith) (omega arith)
-picked-bank ds lo hi (suc n) =
-    better-bank lo (getD ds (suc n) 0) (suc n) (suc n) (soonest ds lo hi (suc n)) (omega arith) (omega (arith, picked-bank ds lo hi n))
-
-pub soonest-bank : (ds : List ℕ) (lo hi : ℕ) → soonest ds lo hi 8 .bank < 8
-soonest-bank ds lo hi = omega (arith, picked-bank ds lo hi 7)
+  pub ends : (t : ℕ) → ltb t (s .rank .edge) || ltb lastEdge t ≡ false → endedOf (chipOf (s .header)) (s .rank) t ≡ endOf (chipOf (s .header)) (s .rank) t
+  ends = let t = tested s range in ended-ends (chipOf (s .header)) (small (s .header) (t .some)) (s .rank) (t .rank)

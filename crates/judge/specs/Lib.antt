@@ -1,5 +1,2 @@
-pub mod Easy
-pub mod Deadlines
-pub mod Step
 pub mod Ranges
 pub mod Calls

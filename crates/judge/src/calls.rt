@@ -1,48 +1,19 @@
 // Opening, a section, closing.
 use crate::Closed;
 use crate::Opened;
-use crate::Register;
 use crate::State;
 use crate::Taken;
-use crate::after::awake;
-use crate::after::whole;
-use crate::deadlines::late25;
-use crate::fold::fold;
-use crate::fold::record_at;
-use crate::ranges::in_range;
-use answers::Shown;
-use answers::Verdict;
-use chip::Chip;
-use chip::Regs;
 use header::Header;
 use header::Parsed;
-use kept::Debt;
-use kept::Kept;
-use kept::Mark;
-use kept::Read;
-use kept::Rests;
-use kept::Shared;
-use kept::Written;
-use kept::Wrote;
-use kept::since;
-use kept::status;
-use next::clean_at;
-use next::late24;
-use next::none;
-use next::sooner;
-use next::soonest;
-use next::verdict_at;
-use next::why;
+use records::Record;
+use running::Rank;
 use units::Ps;
 ghost use mathlib.Core.Path.{_≡_};
 ghost use Prim.Native.Nat.{_+_, _%_, _≤_};
 ghost use lib.ListN.{length};
-ghost use Rattle.answers.specs.Answer.{shownOf};
-ghost use Rattle.records.specs.Record.{records};
-ghost use Rattle.kept.specs.Breaks.{statusOf};
+ghost use Rattle.records.specs.Record.{records, recordAt, hasZero};
 ghost use Rattle.judge.specs.Calls as calls;
-ghost use Rattle.judge.specs.Ranges as Ranges;
-ghost use Rattle.judge.specs.Step as step;
+ghost use Rattle.judge.specs.Ranges as ranges;
 
 impl State {
     // At most so many records in all.
@@ -75,18 +46,17 @@ impl State {
         if bytes.len() % 6 != 0 {
             return refuse(5, self);
         }
-        if State::LIMIT < self.count as u64 + (bytes.len() / 6) as u64 {
+        if State::LIMIT < self.rank.count as u64 + (bytes.len() / 6) as u64 {
             return refuse(7, self);
         }
         if has_zero(bytes) {
             return refuse(6, self);
         }
-        let n = fold(chip::chip_of(self.header), self, bytes);
-        let verdict = so_far(n);
+        let n = rank::take(chip::chip_of(self.header), self.rank, bytes);
         Taken {
             refused: 0,
-            state: n,
-            verdict: verdict,
+            state: holding(self.header, n),
+            verdict: rank::so_far(n),
         }
     }
 
@@ -97,17 +67,32 @@ impl State {
         if !in_range(self) {
             return not_closed(17);
         }
-        if (end < self.edge) | (17592186044416 < end) {
+        if (end < self.rank.edge) | (17592186044416 < end) {
             return not_closed(8);
         }
-        closed(chip::chip_of(self.header), self, end)
+        let e = rank::end(chip::chip_of(self.header), self.rank, end);
+        Closed { refused: 0, end: e }
     }
+}
+
+// Check 17.
+fn in_range(s: State) -> bool
+    ensures { λ r. ⌜ r ≡ ranges.inRange s ⌝ }
+{
+    let interval = s.header.trefi().clocks;
+    ((s.header.bin <= 3) & (1 <= interval)) & rank::in_range(s.rank)
+}
+
+fn holding(h: Header, n: Rank) -> State
+    ensures { λ r. ⌜ r ≡ calls.holding h n ⌝ }
+{
+    State { header: h, rank: n }
 }
 
 fn start(h: Header) -> State
     ensures { λ r. ⌜ r ≡ calls.startOf h ⌝ }
 {
-    fresh(h, true, 8)
+    holding(h, rank::fresh(true, 8))
 }
 
 fn zeros() -> State
@@ -120,82 +105,7 @@ fn zeros() -> State
         hot: false,
         period: Ps { ps: 0 },
     };
-    fresh(h, false, 0)
-}
-
-fn fresh(h: Header, level: bool, owed: u64) -> State
-    ensures { λ r. ⌜ r ≡ calls.freshState h level owed ⌝ }
-{
-    let m = Mark {
-        at: 0,
-        num: 0,
-        need: 0,
-    };
-    let bank = Kept {
-        acted: m,
-        row: 0,
-        read: m,
-        wrote: m,
-        shut: m,
-    };
-    let banks = [bank; 8];
-    let dues = [0u64; 8];
-    let acts = [m; 4];
-    let rests = Rests {
-        refreshed: m,
-        tuned: m,
-        reset: m,
-        woke: m,
-        slept: m,
-    };
-    let shared = Shared {
-        now: 0,
-        level: level,
-        acts: acts,
-        rests: rests,
-        debt: Debt {
-            sleeps: false,
-            phase: 0,
-            owed: owed,
-        },
-        regs: Regs {
-            mr0: 0,
-            mr1: 0,
-            mr2: 0,
-            mr3: 0,
-        },
-        written: Written {
-            w0: false,
-            w1: false,
-            w2: false,
-            w3: false,
-            dll: false,
-        },
-        read: Read {
-            at: 0,
-            num: 0,
-            n10: 0,
-            n13: 0,
-            n19: 0,
-        },
-        wrote: Wrote {
-            at: 0,
-            num: 0,
-            n11: 0,
-            n14: 0,
-        },
-        mrs: m,
-        shut: m,
-    };
-    State {
-        header: h,
-        edge: 0,
-        count: 0,
-        first: none(),
-        banks: banks,
-        dues: dues,
-        shared: shared,
-    }
+    holding(h, rank::fresh(false, 0))
 }
 
 fn refuse(n: u64, s: State) -> Taken
@@ -204,25 +114,21 @@ fn refuse(n: u64, s: State) -> Taken
     Taken {
         refused: n,
         state: s,
-        verdict: none(),
+        verdict: says::none(),
     }
 }
 
-// The verdict as if closed at the last record's edge so far.
-fn so_far(s: State) -> Verdict
-    ensures { λ r. ⌜ r ≡ step.soFar s ⌝ }
+fn not_closed(n: u64) -> Closed
+    ensures { λ r. ⌜ r ≡ calls.notClosed n ⌝ }
 {
-    let first = s.first;
-    if first.outcome == 0 {
-        return clean_at(s.count, s.edge);
-    }
-    first
+    let e = rank::no_end();
+    Closed { refused: n, end: e }
 }
 
 // Is some record's step 0?
 fn has_zero(bytes: &[u8]) -> bool
     requires { ⌜ length (now bytes) % 6 ≡ 0 ⌝ }
-    ensures { λ r. ⌜ r ≡ calls.hasZero (records (now (bytes .entry))) ⌝ }
+    ensures { λ r. ⌜ r ≡ hasZero (records (now (bytes .entry))) ⌝ }
 {
     let mut at: usize = 0;
     while at < bytes.len() {
@@ -235,134 +141,16 @@ fn has_zero(bytes: &[u8]) -> bool
     false
 }
 
-fn closed(chip: Chip, s: State, end: u64) -> Closed
-    requires { ⌜ Ranges.Closable chip s end ⌝ }
-    ensures { λ r. ⌜ r ≡ calls.closedOf chip s end ⌝ }
+fn record_at(bytes: &[u8], at: usize) -> Record
+    requires { ⌜ at + 6 ≤ length (now bytes) ⌝ }
+    ensures { λ r. ⌜ r ≡ recordAt (now (bytes .entry)) at ⌝ }
 {
-    let v = verdict_of(chip, s, end);
-    let t = rest(v, end);
-    let ks = s.banks;
-    let banks = banks_at(ks, t);
-    let registers = registers_of(s.shared.regs, s.shared.written);
-    Closed {
-        refused: 0,
-        verdict: v,
-        banks: banks,
-        registers: registers,
-        owed: owed_now(chip, s.shared.debt, s.shared.now, t),
-    }
-}
-
-fn not_closed(n: u64) -> Closed
-    ensures { λ r. ⌜ r ≡ calls.notClosed n ⌝ }
-{
-    let b = Shown {
-        status: 0,
-        row: 0,
-        act: 0,
-    };
-    let g = Register {
-        written: false,
-        code: 0,
-    };
-    let banks = [b; 8];
-    let registers = [g; 4];
-    Closed {
-        refused: n,
-        verdict: none(),
-        banks: banks,
-        registers: registers,
-        owed: 0,
-    }
-}
-
-fn verdict_of(chip: Chip, s: State, end: u64) -> Verdict
-    requires { ⌜ Ranges.Closable chip s end ⌝ }
-    ensures { λ r. ⌜ r ≡ calls.verdictOf chip s end ⌝ }
-    ensures { λ r. ⌜ r .edge ≤ Ranges.lastEdge + 1 ⌝ }
-{
-    let first = s.first;
-    if first.outcome != 0 {
-        return first;
-    }
-    let dues = s.dues;
-    let pick = soonest(dues, s.edge, end + 1);
-    let p = pick.bank as usize;
-    let x24 = late24(pick.at, s.banks[p].acted.num, chip.most);
-    let x25 = late25(
-        chip.trefi,
-        s.shared.debt,
-        s.shared.rests.refreshed.num,
-        s.edge,
-        end + 1,
-    );
-    let x = sooner(x24, x25);
-    if x.at < end + 1 {
-        return verdict_at(x.at, 0, why(x));
-    }
-    clean_at(s.count, end)
-}
-
-fn rest(v: Verdict, end: u64) -> u64
-    requires { ⌜ (v .edge ≤ Ranges.lastEdge + 1) × (end ≤ Ranges.lastEdge) ⌝ }
-    ensures { λ r. ⌜ r ≡ calls.restOf v end ⌝ }
-    ensures { λ r. ⌜ r ≤ Ranges.lastEdge ⌝ }
-{
-    if v.outcome == 0 {
-        return end;
-    }
-    since(v.edge, 1)
-}
-
-fn owed_now(chip: Chip, d: Debt, now: u64, t: u64) -> u64
-    requires { ⌜ Ranges.Small chip ⌝ }
-    requires { ⌜ (d .phase ≤ Ranges.lastEdge) × (d .owed ≤ Ranges.lastEdge) × (t ≤ Ranges.lastEdge) ⌝ }
-    ensures { λ r. ⌜ r ≡ calls.owedAt chip d now t ⌝ }
-{
-    let total = d.phase + awake(d.sleeps, since(t, now));
-    d.owed + whole(total, chip.trefi)
-}
-
-fn banks_at(ks: [Kept; 8], t: u64) -> [Shown; 8]
-    ensures { λ r. ⌜ r ≡ calls.banksAt ks t ⌝ }
-{
-    [
-        shown_at(ks[0], t),
-        shown_at(ks[1], t),
-        shown_at(ks[2], t),
-        shown_at(ks[3], t),
-        shown_at(ks[4], t),
-        shown_at(ks[5], t),
-        shown_at(ks[6], t),
-        shown_at(ks[7], t),
-    ]
-}
-
-fn shown_at(k: Kept, t: u64) -> Shown
-    ensures { λ r. ⌜ r ≡ shownOf (statusOf k t) ⌝ }
-{
-    answers::show(status(k, t))
-}
-
-fn registers_of(g: Regs, w: Written) -> [Register; 4]
-    ensures { λ r. ⌜ r ≡ calls.registersOf g w ⌝ }
-{
-    [
-        Register {
-            written: w.w0,
-            code: g.mr0,
-        },
-        Register {
-            written: w.w1,
-            code: g.mr1,
-        },
-        Register {
-            written: w.w2,
-            code: g.mr2,
-        },
-        Register {
-            written: w.w3,
-            code: g.mr3,
-        },
-    ]
+    records::decode(
+        bytes[at],
+        bytes[at + 1],
+        bytes[at + 2],
+        bytes[at + 3],
+        bytes[at + 4],
+        bytes[at + 5],
+    )
 }

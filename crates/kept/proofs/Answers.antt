@@ -10,13 +10,14 @@ use Rattle.answers.specs.declared.Break.{Break}
 use Rattle.records.specs.declared.Command.{Command}
 use Rattle.records.specs.declared.Record.{Record}
 use Rattle.chip.specs.declared.Chip.{Chip}
-use Rattle.kept.specs.declared.Kept.{Kept}
-use Rattle.kept.specs.declared.Shared.{Shared}
-use Rattle.kept.specs.declared.Written.{Written}
-use Rattle.kept.specs.declared.Mark.{Mark}
-use Rattle.kept.specs.Marks.{needing}
-use Rattle.kept.specs.Fine.{fineAct, fineRd, fineWr, finePre, fineRest}
-use Rattle.kept.specs.Breaks.{orElse, statusOf, wants, barredBy, barredAt, lowest, speaksOfAll, rule3, spacings, joined}
+use Rattle.running.specs.declared.Kept.{Kept}
+use Rattle.running.specs.declared.Shared.{Shared}
+use Rattle.running.specs.declared.Written.{Written}
+use Rattle.running.specs.declared.Mark.{Mark}
+use Rattle.running.specs.Marks.{needing}
+use Rattle.running.specs.Fine.{fineAct, fineRd, fineWr, finePre, fineRest}
+use Rattle.answers.specs.Answer.{orElse, lowest}
+use Rattle.running.specs.Breaks.{statusOf, wants, barredBy, barredAt, speaksOfAll, rule3, spacings, joined}
 
 pub since-unique : (e at : ℕ) → Unique (λ (r : ℕ). r ≡ e - at)
 since-unique e at = one-answer (e - at)

@@ -1,3 +1,1 @@
 pub mod Answers
-pub mod Both
-pub mod Finding

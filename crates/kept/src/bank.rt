@@ -1,8 +1,8 @@
 // What a bank is at an edge: idle, open or closing.
-use crate::Kept;
 use answers::Bank;
+use running::Kept;
 ghost use mathlib.Core.Path.{_≡_};
-ghost use Rattle.kept.specs.Breaks.{statusOf};
+ghost use Rattle.running.specs.Breaks.{statusOf};
 
 // The bank at an edge after the latest record.
 pub fn status(k: Kept, t: u64) -> Bank

@@ -1,17 +1,18 @@
 // What a record breaks: rules 1 to 23, the lowest first, from what is kept.
-use crate::Kept;
-use crate::Written;
 use crate::bank::status;
 use answers::Bank;
 use answers::Break;
 use chip::Chip;
 use records::Command;
 use records::Record;
+use running::Kept;
+use running::Written;
 ghost use mathlib.Core.Path.{_≡_};
-ghost use Rattle.kept.specs.Breaks as breaks;
+ghost use Rattle.answers.specs.Answer.{orElse, lowest};
+ghost use Rattle.running.specs.Breaks as breaks;
 
 pub fn or_else(a: Break, b: Break) -> Break
-    ensures { λ x. ⌜ x ≡ breaks.orElse a b ⌝ }
+    ensures { λ x. ⌜ x ≡ orElse a b ⌝ }
 {
     match a {
         Break::Fine => b,
@@ -105,7 +106,7 @@ pub fn barred(c: Command, k: Kept, e: u64) -> Break
 
 // Rule 2 of all banks: the lowest in the way.
 pub fn first_barred(c: Command, banks: [Kept; 8], e: u64) -> Break
-    ensures { λ x. ⌜ x ≡ breaks.lowest (breaks.barredAt c banks e) 8 ⌝ }
+    ensures { λ x. ⌜ x ≡ lowest (breaks.barredAt c banks e) 8 ⌝ }
 {
     let b0 = barred(c, banks[0], e);
     let b1 = or_else(b0, barred(c, banks[1], e));

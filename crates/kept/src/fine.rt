@@ -1,16 +1,16 @@
 // Does a record of a frequent command break nothing? Asked with no word of what it would break, and of the command's own rules only:
 // 15, 17, 18 and 21 are out of the way by then.
-use crate::Kept;
-use crate::Mark;
-use crate::Shared;
 use crate::spaced::since;
 use crate::spacing::as10;
 use crate::spacing::as11;
 use crate::spacing::as13;
 use crate::spacing::as14;
 use chip::Chip;
+use running::Kept;
+use running::Mark;
+use running::Shared;
 ghost use mathlib.Core.Path.{_≡_};
-ghost use Rattle.kept.specs.Fine as fine;
+ghost use Rattle.running.specs.Fine as fine;
 
 fn met(e: u64, m: Mark) -> bool
     ensures { λ r. ⌜ r ≡ fine.met e m ⌝ }
@@ -27,19 +27,17 @@ fn met_by(need: u32, e: u64, m: Mark) -> bool
 pub fn fine_act(chip: Chip, q: u64, e: u64, k: Kept, s: Shared) -> bool
     ensures { λ r. ⌜ r ≡ fine.fineAct chip q e k s ⌝ }
 {
-    if q != 3 {
-        return false;
-    }
     let a0 = s.acts[0];
     let a3 = s.acts[3];
     let w = s.written;
     let idle = (k.acted.num <= k.shut.num) & (k.shut.at <= e);
     let set = w.w0 & (w.w1 & (w.w2 & w.w3));
-    idle
-        & (set
-            & (met(e, k.shut)
-                & (met_by(chip.trc, e, k.acted)
-                    & (met_by(chip.trrd, e, a0) & met_by(chip.tfaw, e, a3)))))
+    (q == 3)
+        & (idle
+            & (set
+                & (met(e, k.shut)
+                    & (met_by(chip.trc, e, k.acted)
+                        & (met_by(chip.trrd, e, a0) & met_by(chip.tfaw, e, a3))))))
 }
 
 pub fn fine_rd(q: u64, e: u64, k: Kept, s: Shared) -> bool

@@ -1,9 +1,9 @@
 // The check of one least-spacing rule against one mark.
-use crate::Mark;
 use answers::Break;
+use running::Mark;
 ghost use mathlib.Core.Path.{_≡_};
 ghost use Prim.Native.Nat.{_-_};
-ghost use Rattle.kept.specs.Marks as marks;
+ghost use Rattle.running.specs.Marks as marks;
 
 // The edges from one edge to another; 0 where the first is not before.
 pub fn since(e: u64, at: u64) -> u64

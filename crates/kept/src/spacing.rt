@@ -1,20 +1,20 @@
 // Rules 4 to 23 of a record, by its command, the lowest rule first. Each names only the rules that speak of its command.
-use crate::Kept;
-use crate::Mark;
-use crate::Read;
-use crate::Shared;
-use crate::Wrote;
 use crate::spaced::needing;
 use crate::spaced::spaced;
 use answers::Break;
 use chip::Chip;
 use records::Command;
 use records::Record;
+use running::Kept;
+use running::Mark;
+use running::Read;
+use running::Shared;
+use running::Wrote;
 ghost use mathlib.Core.Path.{_≡_};
 ghost use Rattle.records.specs.declared.Command.the-variants.{Act, Pre, Rd, Wr, Mrs, Ref, Sre};
 ghost use Rattle.answers.specs.declared.Break.the-variants.{Fine};
-ghost use Rattle.kept.specs.Marks as marks;
-ghost use Rattle.kept.specs.Breaks as breaks;
+ghost use Rattle.running.specs.Marks as marks;
+ghost use Rattle.running.specs.Breaks as breaks;
 
 pub fn spacings(chip: Chip, c: Command, r: Record, e: u64, k: Kept, s: Shared) -> Break
     ensures { λ x. ⌜ x ≡ breaks.spacings chip c r e k s ⌝ }

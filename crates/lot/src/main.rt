@@ -70,10 +70,10 @@ fn answer(lot: Lot, values: bool, first: usize, end: usize) {
         return;
     }
     let state = lot.state;
-    let c = state.close(state.edge);
+    let c = state.close(state.rank.edge);
     let tally = lot.tally;
     let header = lot.header;
-    told(c, tally, header, state.count, values, first, end);
+    told(c, tally, header, state.rank.count, values, first, end);
 }
 
 // A state that was opened and whose last edge is the end is not refused.
@@ -90,12 +90,13 @@ fn told(
         report::told::refusal(values, first, 0, c.refused);
         return;
     }
-    let v = c.verdict;
+    let e = c.end;
+    let v = e.verdict;
     let named = find::records(v, first, end);
     let records = count as u64;
     if values {
-        report::values::report(tally, records, named, c, header);
+        report::values::report(tally, records, named, e, header);
     } else {
-        report::person::report(tally, records, named, c, header);
+        report::person::report(tally, records, named, e, header);
     }
 }

@@ -24,7 +24,7 @@ pub(crate) fn later(lot: Lot, i: usize, values: bool) -> Lot {
         return lot;
     }
     let fd = opened(i, values);
-    let place = begun(i, fd, lot.state.count, lot.state.edge);
+    let place = begun(i, fd, lot.state.rank.count, lot.state.rank.edge);
     let end = sections(moved(lot, place), fd, values);
     libc::close(fd);
     end
@@ -164,11 +164,11 @@ fn taken(lot: Lot, p: Place, bytes: &[u8], values: bool) -> Lot {
         bytes,
         t.refused,
         u.refused,
-        state.count,
+        state.rank.count,
         values,
     );
     let next = t.state;
-    tell(place, next.count, next.edge, values);
+    tell(place, next.rank.count, next.rank.edge, values);
     let counted = u.tally;
     let header = lot.header;
     Lot {

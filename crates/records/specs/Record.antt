@@ -1,7 +1,9 @@
 -- The six bytes of a record: 01, "The recording".
 -- Assumes nothing.
 use Prim.Native.Nat.{ℕ, _+_}
+use mathlib.Core.Bool.{Bool, true, false, cond}
 use mathlib.Core.List.{List, [], _∷_}
+use lib.Dec.{eqb}
 use lib.ListN.{getD}
 use Rattle.bits.specs.Bits.{word48, field, flag}
 use Rattle.records.specs.declared.Record.{Record}
@@ -26,3 +28,8 @@ records (_ ∷ _ ∷ _ ∷ _ ∷ _ ∷ []) = []
 -- the record that starts at a place of the bytes
 abbrev pub recordAt : List ℕ → (at : ℕ) → Record
 recordAt bs i = recordOf (getD bs i 0) (getD bs (i + 1) 0) (getD bs (i + 2) 0) (getD bs (i + 3) 0) (getD bs (i + 4) 0) (getD bs (i + 5) 0)
+
+-- | 6 | some record's step is 0 |
+abbrev pub hasZero : List Record → Bool
+hasZero [] = false
+hasZero (r ∷ rs) = cond (eqb (r .step) 0) true (hasZero rs)

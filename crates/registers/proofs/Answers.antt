@@ -14,7 +14,6 @@ use Rattle.laws.proofs.Unique.{Unique, one-answer}
 use Rattle.header.specs.declared.Header.{Header}
 use Rattle.header.specs.declared.Parsed.{Parsed}
 use Rattle.header.specs.Bytes.{parsedOf}
-use Rattle.registers.specs.Codes.{cl, wr, resets, al, cwl, rl, wl}
 use Rattle.registers.specs.Allowed.{allowed}
 use Rattle.registers.specs.Reading.{readUnder, registerRefusal, readCode, fields0, fields1, fields2, fieldsOf}
 
@@ -56,24 +55,3 @@ six n c = go (eqb n 0) (eqb n 1) (eqb n 2)
 -- one answer for each public contract; register reading's are those of `Wrote`
 pub allowed-unique : (h : Header) (n c : ℕ) → Unique (λ (r : Bool). r ≡ allowed h n c)
 allowed-unique h n c = one-answer (allowed h n c)
-
-pub cl-unique : (code : ℕ) → Unique (λ (r : ℕ). r ≡ cl code)
-cl-unique code = one-answer (cl code)
-
-pub wr-unique : (code : ℕ) → Unique (λ (r : ℕ). r ≡ wr code)
-wr-unique code = one-answer (wr code)
-
-pub resets-unique : (code : ℕ) → Unique (λ (r : Bool). r ≡ resets code)
-resets-unique code = one-answer (resets code)
-
-pub al-unique : (code0 code1 : ℕ) → Unique (λ (r : ℕ). r ≡ al code0 code1)
-al-unique code0 code1 = one-answer (al code0 code1)
-
-pub cwl-unique : (code : ℕ) → Unique (λ (r : ℕ). r ≡ cwl code)
-cwl-unique code = one-answer (cwl code)
-
-pub rl-unique : (code0 code1 : ℕ) → Unique (λ (r : ℕ). r ≡ rl code0 code1)
-rl-unique code0 code1 = one-answer (rl code0 code1)
-
-pub wl-unique : (code0 code1 code2 : ℕ) → Unique (λ (r : ℕ). r ≡ wl code0 code1 code2)
-wl-unique code0 code1 code2 = one-answer (wl code0 code1 code2)

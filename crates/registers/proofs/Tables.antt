@@ -1,4 +1,4 @@
--- The constant tables hold 01's tables: the rule is tested once over each whole table.
+-- The constant table of CAS latencies holds 01's: the rule is tested once over the whole table.
 -- Assumes nothing.
 use Prim.Native.Nat.{ℕ, _<_, _≤_}
 use native.Mathlib.Omega.{arith}
@@ -9,17 +9,10 @@ use lib.ListN.{getD}
 use lib.Dec.{eqb, leb, ltb, leb·zero}
 use borrow.Author.Tests.{ne-eqb, le-ltb}
 use Rattle.header.specs.declared.Header.{Header}
-use Rattle.laws.proofs.Table.{table-rule, rows-rule}
-use Rattle.registers.specs.Codes.{clOfCode, wrOfCode}
+use Rattle.laws.proofs.Table.{rows-rule}
 use Rattle.registers.specs.Allowed.{Span, spanOf, clFits}
 
--- the constants of src/codes.rt and src/permit.rt
-unfoldable pub cls : List ℕ
-cls = 0 ∷ 12 ∷ 5 ∷ 0 ∷ 6 ∷ 0 ∷ 7 ∷ 0 ∷ 8 ∷ 0 ∷ 9 ∷ 0 ∷ 10 ∷ 0 ∷ 11 ∷ 0 ∷ []
-
-unfoldable pub wrs : List ℕ
-wrs = 16 ∷ 5 ∷ 6 ∷ 7 ∷ 8 ∷ 10 ∷ 12 ∷ 14 ∷ []
-
+-- the constant of src/permit.rt
 unfoldable pub spans : List (List ℕ)
 spans =
     (0 ∷ 0 ∷ 0 ∷ 0 ∷ []) ∷ (0 ∷ 0 ∷ 0 ∷ 0 ∷ []) ∷ (0 ∷ 0 ∷ 0 ∷ 0 ∷ []) ∷ (0 ∷ 0 ∷ 0 ∷ 0 ∷ []) ∷ (0 ∷ 0 ∷ 0 ∷ 0 ∷ [])
@@ -32,14 +25,6 @@ spans =
     ∷ (1250 ∷ 1500 ∷ 2 ∷ 3 ∷ [])
     ∷ (1070 ∷ 1250 ∷ 3 ∷ 3 ∷ [])
     ∷ []
-
-pub cl-is : (k : ℕ) → k < 16 → getD cls k 0 ≡ clOfCode k
-unfolding cls clOfCode
-cl-is = table-rule clOfCode cls tt
-
-pub wr-is : (k : ℕ) → k < 8 → getD wrs k 0 ≡ wrOfCode k
-unfolding wrs wrOfCode
-wr-is = table-rule wrOfCode wrs tt
 
 -- the columns of a span
 abbrev column : Span → ℕ → ℕ

@@ -5,7 +5,7 @@ use mathlib.Core.Bool.{Bool, false, cond, not, _&&_}
 use lib.Dec.{eqb, leb, ltb}
 use Rattle.header.specs.declared.Header.{Header}
 use Rattle.header.specs.Counts.{tWR}
-use Rattle.registers.specs.Codes.{bits, bit, set, burst, cl, wr, rtt, cwl}
+use Rattle.codes.specs.Codes.{bits, bit, set, burst, cl, wr, rtt, cwl}
 
 -- the periods and bins of a CAS latency
 pub record Span : Type 0 where

@@ -8,7 +8,7 @@ use Rattle.header.specs.declared.Header.{Header}
 use Rattle.header.specs.declared.Parsed.{Parsed}
 use Rattle.header.specs.declared.Parsed.the-variants.{Taken, Refused}
 use Rattle.header.specs.Bytes.{parsedOf}
-use Rattle.registers.specs.Codes.{bits, bit, burst, cl, wr, rtt, cwl}
+use Rattle.codes.specs.Codes.{bits, bit, burst, cl, wr, rtt, cwl}
 use Rattle.registers.specs.Allowed.{allowed}
 
 -- "MR0: A1A0, A3, CL, A8, WR, A12. MR1: A4A3, A1, A9A6A2, A11, A12, 0. MR2: CWL, A6, A7, A10A9, A2..A0, 0. MR3: zeros."

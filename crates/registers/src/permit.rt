@@ -1,10 +1,9 @@
 // Which codes a header allows.
-use crate::codes::cl;
-use crate::codes::cwl;
-use crate::codes::wr;
+use codes::cl;
+use codes::cwl;
+use codes::wr;
 use header::Header;
 ghost use mathlib.Core.Path.{_≡_};
-ghost use Prim.Native.Nat.{_<_};
 ghost use Rattle.registers.specs.Allowed as allows;
 
 // By CL: the period from, the period under, the lowest bin, the highest bin.

@@ -1,8 +1,8 @@
 // Register reading: a header, a register's number and a code to six bytes.
-use crate::codes::cl;
-use crate::codes::cwl;
-use crate::codes::wr;
 use crate::permit::allowed;
+use codes::cl;
+use codes::cwl;
+use codes::wr;
 use header::Header;
 use header::Parsed;
 ghost use mathlib.Core.Path.{_≡_};

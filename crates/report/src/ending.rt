@@ -4,11 +4,11 @@ use crate::text::number;
 use crate::text::put;
 use crate::text::say;
 use crate::text::say_hex;
+use answers::End;
+use answers::Register;
 use answers::Shown;
-use judge::Closed;
-use judge::Register;
 
-pub(crate) fn picture(c: Closed, header: [u8; 6]) {
+pub(crate) fn picture(c: End, header: [u8; 6]) {
     let banks = c.banks;
     print_banks(banks);
     let registers = c.registers;

@@ -12,11 +12,11 @@ use crate::text::say;
 use crate::text::say_hex;
 use crate::text::word;
 use crate::words;
+use answers::End;
 use answers::Verdict;
 use glossary::Line;
 use glossary::Row;
 use header::Header;
-use judge::Closed;
 use tally::Tally;
 
 pub(crate) fn part(h: Header) {
@@ -51,7 +51,7 @@ pub(crate) fn file(i: usize, records: u64, from: u64, to: u64) {
     put(b"\n");
 }
 
-pub fn report(t: Tally, count: u64, named: Named, c: Closed, header: [u8; 6]) {
+pub fn report(t: Tally, count: u64, named: Named, c: End, header: [u8; 6]) {
     let counts = t.counts;
     commands(counts);
     put(b"  all                                ");

@@ -9,13 +9,13 @@ use crate::text::say;
 use crate::text::say_hex;
 use crate::text::value;
 use crate::text::word;
+use answers::End;
+use answers::Register;
 use answers::Shown;
 use answers::Verdict;
 use glossary::Line;
 use glossary::Row;
 use header::Header;
-use judge::Closed;
-use judge::Register;
 use tally::Tally;
 
 pub(crate) fn part(h: Header) {
@@ -35,7 +35,7 @@ pub(crate) fn file(i: usize, records: u64, from: u64, to: u64) {
     value(b"file_to_edge", to);
 }
 
-pub fn report(t: Tally, count: u64, named: Named, c: Closed, header: [u8; 6]) {
+pub fn report(t: Tally, count: u64, named: Named, c: End, header: [u8; 6]) {
     let counts = t.counts;
     commands(counts);
     value(b"count_all", count);

@@ -17,13 +17,14 @@ use Rattle.records.specs.declared.Command.{Command}
 use Rattle.records.specs.declared.Command.the-variants.{Mrs, Ref, Act, Wr, Rd, Zq, Sre, Srx}
 use Rattle.records.specs.Command.{a10}
 use Rattle.chip.specs.declared.Chip.{Chip}
-use Rattle.kept.specs.declared.Mark.{Mark}
-use Rattle.kept.specs.declared.Read.{Read}
-use Rattle.kept.specs.declared.Wrote.{Wrote}
-use Rattle.kept.specs.Marks.{empty, needing, as10, as11, as13, as14, as19}
-use Rattle.kept.specs.Breaks as judge
+use Rattle.running.specs.declared.Mark.{Mark}
+use Rattle.running.specs.declared.Read.{Read}
+use Rattle.running.specs.declared.Wrote.{Wrote}
+use Rattle.running.specs.Marks.{empty, needing, as10, as11, as13, as14, as19}
+use Rattle.running.specs.Breaks as running
 use Rattle.rules.specs.Past.{Past, edge, number, command, is, bankOf, on, latest, back, greatest}
-use Rattle.rules.specs.Search.{orElse, Spacing, row}
+use Rattle.answers.specs.Answer.{orElse}
+use Rattle.rules.specs.Search.{Spacing, row}
 use Rattle.rules.specs.Registers.{dllReset}
 use Rattle.rules.specs.Banks.{actOn, closes, shuts, start, status}
 use Rattle.rules.specs.Rules.{concerns, barred, covered, r4, r6, r7, r9, r10, r11, r12r, r12w, r13, r14, r15, r16, r17, r18, r19, r20, r21, r22, rule2, rule3, rule5, rule23, spacing, checks, breakAt}
@@ -35,7 +36,7 @@ use Rattle.rules.proofs.Facts.{Sound}
 use Rattle.rules.proofs.Dominate.{need4, need10, need11, need18, dominated-part, dominated4, dominated10, dominated11, dominated13, dominated14, dominated18, dominated19}
 use Rattle.rules.proofs.Summary.{mark, rdOn, wrOn, startMark, readOf, wroteOf, kept, written, acts, rests, shared}
 use Rattle.rules.proofs.Status.{mark-num, status-of}
-use Rattle.rules.proofs.Words.{or-same, lowest-same, check, also, needing-mark, back-latest, or-fine, spacingChecks, row-agrees, covered-latest, as10-mark, as13-mark, as19-mark, as11-mark, as14-mark, since-mark, fourth-mark, later-of, srx-not-ref, woken}
+use Rattle.rules.proofs.Words.{check, also, needing-mark, back-latest, or-fine, spacingChecks, row-agrees, covered-latest, as10-mark, as13-mark, as19-mark, as11-mark, as14-mark, since-mark, fourth-mark, later-of, srx-not-ref, woken}
 use Rattle.rules.proofs.InTheWay.{may-is, speaks, all-concern, off-concern, own-concern, lowest-single}
 
 module _ (C : Chip) (S : Sound C) (r : Record) (p : Past) (h : Clean C p) where
@@ -49,15 +50,14 @@ module _ (C : Chip) (S : Sound C) (r : Record) (p : Past) (h : Clean C p) where
   c = command (r ∷ p)
 
   -- a bank in the way, from what is kept and by looking back
-  barred-at : (n : ℕ) → n < 8 → judge.barredAt c (table (kept C p)) e n ≡ judge.barredBy (judge.wants c) (status C n p e)
-  barred-at n l = ap (judge.barredBy (judge.wants c)) (ap (λ k. judge.statusOf k e) (getD-table (kept C p) n empty l) ∙ status-of C n e p)
+  barred-at : (n : ℕ) → n < 8 → running.barredAt c (table (kept C p)) e n ≡ running.barredBy (running.wants c) (status C n p e)
+  barred-at n l = ap (running.barredBy (running.wants c)) (ap (λ k. running.statusOf k e) (getD-table (kept C p) n empty l) ∙ status-of C n e p)
 
-  agrees2 : judge.rule2 c r (table (kept C p)) e ≡ rule2 C r p
-  unfolding judge.rule2
+  agrees2 : running.rule2 c r (table (kept C p)) e ≡ rule2 C r p
+  unfolding running.rule2
   agrees2 = ⊎-elim
       (λ (y : speaks c (a10 r) ≡ true).
-      rw y (lowest-same (judge.barredAt c (table (kept C p)) e) 8
-      ∙ lowest-ext _ _ 8 (λ n l. barred-at n l ∙ sym (may-is c (status C n p e)) ∙ ap (λ x. barred c x (status C n p e)) (sym (all-concern c (a10 r) (on n (r ∷ p)) y)))))
+      rw y (lowest-ext _ _ 8 (λ n l. barred-at n l ∙ sym (may-is c (status C n p e)) ∙ ap (λ x. barred c x (status C n p e)) (sym (all-concern c (a10 r) (on n (r ∷ p)) y)))))
       (λ (z : speaks c (a10 r) ≡ false).
       rw z (barred-at b (omega arith) ∙ sym (own-concern c (a10 r) (status C b p e) z)
       ∙ ap (λ x. barred c (concerns c (a10 r) x) (status C b p e)) (sym (eq-eqb b b refl))
@@ -93,7 +93,7 @@ module _ (C : Chip) (S : Sound C) (r : Record) (p : Past) (h : Clean C p) where
 
   -- rule 5 is checked in two places
   five : {rest others : Break} → rest ≡ others
-      → judge.whenIs (is Act (r ∷ p)) 5 e (startMark C (latest (closes b) p)) (judge.whenIs all 5 e (startMark C (greatest shuts (start C) p)) rest)
+      → running.whenIs (is Act (r ∷ p)) 5 e (startMark C (latest (closes b) p)) (running.whenIs all 5 e (startMark C (greatest shuts (start C) p)) rest)
       ≡ orElse (rule5 C r p) others
   unfolding orElse
   five {rest} {others} q =
@@ -127,7 +127,7 @@ module _ (C : Chip) (S : Sound C) (r : Record) (p : Past) (h : Clean C p) where
   -- one row more
   row-also :
       (R : Spacing) (m : Mark) {rest others : Break} → Dominated edge (R .from (r ∷ p)) (R .need) p → m ≡ mark (R .need) (latest (R .from (r ∷ p)) p)
-      → rest ≡ others → judge.whenIs (R .to (r ∷ p)) (R .name) e m rest ≡ orElse (row R r p) others
+      → rest ≡ others → running.whenIs (R .to (r ∷ p)) (R .name) e m rest ≡ orElse (row R r p) others
   row-also R m d x q = also (R .to (r ∷ p)) (R .name) e m (by R m d x) q
 
   abbrev acted : Mark
@@ -145,8 +145,8 @@ module _ (C : Chip) (S : Sound C) (r : Record) (p : Past) (h : Clean C p) where
   abbrev mrs : Mark
   mrs = mark (λ _. 4) (latest (is Mrs) p)
 
-  spacings-agree : judge.spacings C c r e (kept C p b) (shared C p) ≡ breakAt (spacingChecks C) r p
-  unfolding judge.spacings kept shared acts rests
+  spacings-agree : running.spacings C c r e (kept C p b) (shared C p) ≡ breakAt (spacingChecks C) r p
+  unfolding running.spacings kept shared acts rests
   spacings-agree =
       row-also (spacing C r4) acted (dominated4 C S p h b) refl
       (five
@@ -176,18 +176,12 @@ module _ (C : Chip) (S : Sound C) (r : Record) (p : Past) (h : Clean C p) where
       (row-also (spacing C r22) (mark (λ _. C .tcke + 1) (latest (is Sre) p)) (constant-dominated _ (C .tcke + 1) p) refl
       (marks23 ∙ sym (or-fine (rule23 C r p))))))))))))))))))))))
 
-  agrees3 : judge.rule3 C c r (written C p) ≡ rule3 C r p
-  unfolding judge.rule3 written
+  agrees3 : running.rule3 C c r (written C p) ≡ rule3 C r p
+  unfolding running.rule3 written
   agrees3 = refl
 
   -- what the judge says of the record is what the rules say, looking back over all of the past
   pub record-agrees :
-      judge.joined c (judge.rule2 c r (table (kept C p)) e) (judge.rule3 C c r (written C p)) (judge.spacings C c r e (kept C p b) (shared C p))
+      running.joined c (running.rule2 c r (table (kept C p)) e) (running.rule3 C c r (written C p)) (running.spacings C c r e (kept C p b) (shared C p))
       ≡ breakAt (checks C) r p
-  record-agrees =
-      or-same (judge.rule1 c) (judge.orElse _ (judge.orElse _ _))
-      ∙ ap (orElse (judge.rule1 c)) (or-same (judge.rule2 c r (table (kept C p)) e) (judge.orElse _ _)
-      ∙ (λ i. orElse (agrees2 i) (inner i)))
-    where
-      inner : judge.orElse (judge.rule3 C c r (written C p)) (judge.spacings C c r e (kept C p b) (shared C p)) ≡ orElse (rule3 C r p) (breakAt (spacingChecks C) r p)
-      inner = or-same _ _ ∙ (λ i. orElse (agrees3 i) (spacings-agree i))
+  record-agrees = λ i. orElse (running.rule1 c) (orElse (agrees2 i) (orElse (agrees3 i) (spacings-agree i)))

@@ -19,16 +19,17 @@ use Rattle.records.specs.declared.Command.the-variants.{Mrs, Ref, Pre, Act, Wr,
 use Rattle.records.specs.Command.{rank, a10}
 use Rattle.chip.specs.declared.Chip.{Chip}
 use Rattle.rules.specs.Past.{Past, edge, command, is, a10Of, on, column, _∈_, here, there}
-use Rattle.rules.specs.Search.{orElse, lowest, asking, Spacing, row}
+use Rattle.answers.specs.Answer.{orElse, lowest}
+use Rattle.rules.specs.Search.{asking, Spacing, row}
 use Rattle.rules.specs.Banks.{closes, touches, isIdle, isOpen, notClosing, status}
 use Rattle.rules.specs.Rules.{may, concerns, barred, rule2, checks, breakAt}
 use Rattle.rules.proofs.Generic.{decide, broken-fine, fine-kept, edge-le}
 use Rattle.rules.proofs.Events.{never, both, either, orElse-fine}
 
 -- f is one of fs
-pub data Among (f : Record → Past → Break) : List (Record → Past → Break) → Type 0 where
-  first : {fs : List (Record → Past → Break)} → Among f (f ∷ fs)
-  next : {g : Record → Past → Break} {fs : List (Record → Past → Break)} → Among f fs → Among f (g ∷ fs)
+pub data Among {A : Type 0} (f : A) : List A → Type 0 where
+  first : {fs : List A} → Among f (f ∷ fs)
+  next : {g : A} {fs : List A} → Among f fs → Among f (g ∷ fs)
 
 pub among-fine : {f : Record → Past → Break} {fs : List (Record → Past → Break)} (r : Record) (p : Past) → Among f fs → breakAt fs r p ≡ Fine → f r p ≡ Fine
 among-fine r p first h = orElse-fine _ _ h .0

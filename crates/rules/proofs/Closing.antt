@@ -12,25 +12,23 @@ use Rattle.laws.proofs.Eight.{getD-table, table-ext}
 use Rattle.answers.specs.declared.Break.{Break}
 use Rattle.answers.specs.declared.Break.the-variants.{Fine, Broken}
 use Rattle.answers.specs.declared.Verdict.{Verdict}
-use Rattle.answers.specs.Answer.{shownOf}
+use Rattle.answers.specs.Answer.{shownOf, orElse}
 use Rattle.chip.specs.declared.Chip.{Chip}
-use Rattle.kept.specs.Marks.{empty}
-use Rattle.kept.specs.Breaks.{statusOf}
-use Rattle.next.specs.declared.Late.{Late}
-use Rattle.judge.specs.declared.Closed.{Closed}
-use Rattle.judge.specs.declared.Register.{Register}
-use Rattle.next.specs.Late.{why}
-use Rattle.judge.specs.Deadlines.{nextLate}
-use Rattle.next.specs.Said.{noVerdict, verdictAt, cleanAt}
-use Rattle.judge.specs.Calls as judge
-use Rattle.judge.specs.Calls.{verdictOf, restOf, banksAt, registersOf, closedOf}
+use Rattle.running.specs.Marks.{empty}
+use Rattle.running.specs.Breaks.{statusOf}
+use Rattle.running.specs.declared.Late.{Late}
+use Rattle.answers.specs.declared.Register.{Register}
+use Rattle.running.specs.Late.{why}
+use Rattle.running.specs.Deadlines.{nextLate}
+use Rattle.running.specs.Said.{noVerdict, verdictAt, cleanAt}
+use Rattle.running.specs.Ends as running
+use Rattle.running.specs.Ends.{verdictOf, restOf, banksAt, registersOf, endOf}
 use Rattle.rules.specs.Past.{Past, edge, number, upTo}
-use Rattle.rules.specs.Search.{orElse}
 use Rattle.rules.specs.Registers as rules
 use Rattle.rules.specs.Registers.{regs, mr}
 use Rattle.rules.specs.Banks.{status}
 use Rattle.rules.specs.Deadlines.{owedAt}
-use Rattle.rules.specs.Verdict.{Outcome, clean, stop, verdictTo, shown, shownVerdict, rest, bankAt, registerAt, owedIn, Apart}
+use Rattle.rules.specs.Verdict.{Outcome, clean, stop, verdictTo, shown, shownVerdict, rest, registerOf, answer, Apart}
 use Rattle.rules.proofs.Facts.{Sound}
 use Rattle.rules.proofs.Debts.{debtOf, owed-at}
 use Rattle.rules.proofs.Summary.{kept, written, shared, summary}
@@ -40,25 +38,6 @@ use Rattle.rules.proofs.Gap.{now24, now25, due-next}
 use Rattle.rules.proofs.Edges.{up-to-all, gap-says, late-after, small-owed}
 use Rattle.rules.proofs.Turn.{said}
 use Rattle.rules.proofs.Whole.{frozen, carriedBy, carried, carried-clean}
-
--- ── The answer ──────────────────────────────────────────────────────────────────────────────
-
-abbrev pub registerOf : rules.Register → Register
-registerOf g = record { written = g .written; code = g .code }
-
--- What the rules say of the recording p closed at the edge t, as an answer: the verdict, the eight banks, the four registers and the
--- debt plus 8.
-unfoldable pub answer : Chip → Past → (end : ℕ) → Closed
-answer C p t =
-    record {
-      refused = 0;
-      verdict = shownVerdict C p t;
-      banks = table (λ b. shownOf (bankAt C p t b));
-      registers =
-          registerOf (registerAt C p t 0) ∷ registerOf (registerAt C p t 1) ∷ registerOf (registerAt C p t 2)
-          ∷ registerOf (registerAt C p t 3) ∷ [];
-      owed = owedIn C p t;
-    }
 
 -- ── Closing ─────────────────────────────────────────────────────────────────────────────────
 
@@ -81,7 +60,7 @@ module _ (C : Chip) where
   unfolding regs written
   registers-in q = refl
 
-  owed-in : 0 < C .trefi → (q : Past) (u : ℕ) → judge.owedAt C (debtOf (C .trefi) q) (edge q) u ≡ owedAt (C .trefi) q u
+  owed-in : 0 < C .trefi → (q : Past) (u : ℕ) → running.owedAt C (debtOf (C .trefi) q) (edge q) u ≡ owedAt (C .trefi) q u
   unfolding debtOf
   owed-in z q u = sym (owed-at z q u)
 
@@ -89,14 +68,13 @@ module _ (C : Chip) (S : Sound C) (p : Past) (t : ℕ) where
   -- a state that keeps the summary of the records up to the edge at which the rules look
   parts :
       (w : Verdict) (q : Past) → verdictOf C (frozen C p q w) t ≡ shownVerdict C p t → upTo (rest (verdictTo C p t) t) p ≡ q
-      → closedOf C (frozen C p q w) t ≡ answer C p t
-  unfolding closedOf answer frozen shared
+      → endOf C (frozen C p q w) t ≡ answer C p t
+  unfolding endOf answer frozen shared
   parts w q says keeps = λ i. record {
-    refused = 0;
     verdict = says i;
     banks = (ap (banksAt (table (kept C q))) at ∙ banks-at C q u ∙ ap (λ x. table (λ b. shownOf (status C b x u))) (sym keeps)) i;
     registers = (registers-in C q ∙ ap (registersIn C) (sym keeps)) i;
-    owed = (ap (judge.owedAt C (debtOf (C .trefi) q) (edge q)) at ∙ owed-in C (S .refi-least) q u ∙ ap (λ x. owedAt (C .trefi) x u) (sym keeps)) i;
+    owed = (ap (running.owedAt C (debtOf (C .trefi) q) (edge q)) at ∙ owed-in C (S .refi-least) q u ∙ ap (λ x. owedAt (C .trefi) x u) (sym keeps)) i;
   }
     where
       u : ℕ
@@ -136,18 +114,18 @@ module _ (C : Chip) (S : Sound C) (p : Past) (t : ℕ) where
   summary-frozen = refl
 
   -- after any recording
-  pub closed-carried : Apart p → edge p ≤ t → closedOf C (carried C p) t ≡ answer C p t
+  pub end-carried : Apart p → edge p ≤ t → endOf C (carried C p) t ≡ answer C p t
   unfolding carriedBy
-  closed-carried apart l = go (verdictTo C p (edge p)) refl
+  end-carried apart l = go (verdictTo C p (edge p)) refl
     where
       at-end : verdictTo C p (edge p) ≡ clean → (v : Outcome) → verdictTo C p t ≡ v → upTo (rest v t) p ≡ p
       at-end z clean h = up-to-all t p l
       at-end z (stop u n b) h =
           up-to-all (u - 1) p (omega (arith, stop-after C p (edge p) u n b z (stop-at C p t u n b h .1)))
 
-      go : (v : Outcome) → verdictTo C p (edge p) ≡ v → closedOf C (carriedBy C v p) t ≡ answer C p t
+      go : (v : Outcome) → verdictTo C p (edge p) ≡ v → endOf C (carriedBy C v p) t ≡ answer C p t
       go clean z =
-          ap (λ s. closedOf C s t) (carried-clean C p ∙ summary-frozen)
+          ap (λ s. endOf C s t) (carried-clean C p ∙ summary-frozen)
           ∙ parts noVerdict p (ap (λ s. verdictOf C s t) (sym summary-frozen) ∙ end-says apart l z) (at-end z (verdictTo C p t) refl)
       go (stop u n b) z =
           let h : verdictTo C p t ≡ stop u n b = stays-to C p (edge p) t u n b l z in

@@ -2,16 +2,15 @@
 -- Assumes nothing.
 use Prim.Native.Nat.{ℕ, _+_, _/_, _%_, _≤_}
 use native.Mathlib.Omega.{arith}
-use mathlib.Core.Path.{_≡_, refl, ap}
+use mathlib.Core.Path.{_≡_, refl, sym, ap, _∙_}
 use mathlib.Core.Bool.{Bool, true, false, cond}
-use mathlib.Core.List.{List, [], _∷_, _++_, reverseAux}
+use mathlib.Core.List.{List, [], _∷_, _++_, reverse, reverseAux}
 use lib.Dec.{eqb}
 use lib.ListN.{length}
 use borrow.Author.Tests.{eqb-false, ne-eqb}
 use Rattle.records.specs.declared.Record.{Record}
-use Rattle.records.specs.Record.{recordOf, records}
-use Rattle.judge.specs.Calls.{hasZero}
-use Rattle.rules.specs.Past.{Past, number}
+use Rattle.records.specs.Record.{recordOf, records, hasZero}
+use Rattle.rules.specs.Past.{Past, number, recording}
 use Rattle.rules.specs.Verdict.{Apart, Steps}
 use Rattle.rules.proofs.Events.{never}
 
@@ -68,3 +67,6 @@ reverse-append (r ∷ rs) ss p = reverse-append rs ss (r ∷ p)
 pub number-all : (rs : List Record) (p : Past) → number (reverseAux rs p) ≡ number p + length rs
 number-all [] p = omega arith
 number-all (r ∷ rs) p = omega (arith, number-all rs (r ∷ p))
+
+pub recording-append : (bs xs : List ℕ) → length bs % 6 ≡ 0 → reverseAux (records xs) (recording bs) ≡ recording (bs ++ xs)
+recording-append bs xs h = sym (reverse-append (records bs) (records xs) []) ∙ ap reverse (sym (records-append bs xs h))

@@ -10,8 +10,8 @@ use mathlib.Core.List.{_∷_}
 use Rattle.records.specs.declared.Record.{Record}
 use Rattle.records.specs.declared.Command.the-variants.{Ref}
 use Rattle.chip.specs.declared.Chip.{Chip}
-use Rattle.kept.specs.declared.Debt.{Debt}
-use Rattle.next.specs.Next.{debtNext}
+use Rattle.running.specs.declared.Debt.{Debt}
+use Rattle.running.specs.Next.{debtNext}
 use Rattle.rules.specs.Past.{Past, edge, command, is}
 use Rattle.rules.specs.Deadlines.{asleep, awakeTo, awakeAt, owedTo, owedAt}
 

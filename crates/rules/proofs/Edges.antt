@@ -15,21 +15,21 @@ use Rattle.answers.specs.declared.Break.the-variants.{Fine, Broken}
 use Rattle.records.specs.declared.Record.{Record}
 use Rattle.records.specs.declared.Command.the-variants.{Ref}
 use Rattle.chip.specs.declared.Chip.{Chip}
-use Rattle.next.specs.declared.Late.{Late}
-use Rattle.next.specs.Late.{why}
-use Rattle.judge.specs.Deadlines.{owing}
-use Rattle.next.specs.Said.{lateAt}
+use Rattle.running.specs.declared.Late.{Late}
+use Rattle.running.specs.Late.{why}
+use Rattle.running.specs.Deadlines.{owing}
+use Rattle.running.specs.Said.{lateAt}
 use Rattle.rules.specs.Past.{Past, edge, number, is, latest, upTo}
-use Rattle.rules.specs.Search.{orElse, lowest}
+use Rattle.answers.specs.Answer.{orElse, lowest}
 use Rattle.rules.specs.Banks.{status}
 use Rattle.rules.specs.Rules.{checks, breakAt}
-use Rattle.rules.specs.Deadlines.{late, rule24, rule25, owedTo, owedAt, deadlineAt}
-use Rattle.rules.specs.Verdict.{recordAt, numberAt, clean, stop, say, brokenAt, keep, verdictTo, Apart}
+use Rattle.rules.specs.Deadlines.{late, rule24, rule25, owedTo, owedAt}
+use Rattle.rules.specs.Verdict.{clean, stop, keep, told, recordSays, brokenAt, verdictTo, Apart}
 use Rattle.rules.proofs.Generic.{decide, broken-fine}
-use Rattle.rules.proofs.Events.{orElse-fine}
+use Rattle.rules.proofs.Numbered.{keep-clean, told-clean, told-both, by-number, record-after}
 use Rattle.rules.proofs.Clean.{broken, Clean}
 use Rattle.rules.proofs.Debts.{owed-now}
-use Rattle.rules.proofs.Sense.{stop-clean, verdict-next, skip-to, stays-to, clean-edges}
+use Rattle.rules.proofs.Sense.{verdict-next, skip-to, stays-to, clean-edges}
 use Rattle.rules.proofs.Gap.{Due, now24, now25, late24-at, late25-at}
 
 -- ── Records up to an edge ───────────────────────────────────────────────────────────────────
@@ -45,23 +45,7 @@ up-to-skip t r p h = rw (lt-leb (edge (r ∷ p)) t h)
 pub up-to-before : (r : Record) (p : Past) (t : ℕ) → edge p < t → t ≤ edge (r ∷ p) → upTo (t - 1) (r ∷ p) ≡ p
 up-to-before r p t l m = up-to-skip (t - 1) r p (omega arith) ∙ up-to-all (t - 1) p (omega arith)
 
--- ── What is said of an edge ─────────────────────────────────────────────────────────────────
-
-pub say-clean : (t n : ℕ) (b d : Break) → say t n b d ≡ clean → (b ≡ Fine) × (d ≡ Fine)
-say-clean t n Fine Fine h = (refl, refl)
-say-clean t n Fine (Broken k x m f) h = stop-clean h
-say-clean t n (Broken k x m f) d h = stop-clean h
-
--- with no break of a record its number does not matter
-say-late : (t n : ℕ) (d : Break) → say t n Fine d ≡ say t 0 Fine d
-say-late t n Fine = refl
-say-late t n (Broken k x m f) = refl
-
 module _ (C : Chip) where
-  record-after : (p : Past) (s : ℕ) → edge p < s → recordAt C p s ≡ Fine
-  record-after [] s l = refl
-  record-after (r ∷ p) s l = rw (ne-eqb (edge (r ∷ p)) s (λ e. omega arith)) (record-after p s (omega arith))
-
   -- ── A later record ────────────────────────────────────────────────────────────────────────
 
   module _ (r : Record) (p : Past) where
@@ -73,8 +57,10 @@ module _ (C : Chip) where
 
     broken-same : (s : ℕ) → 0 < s → s < edge (r ∷ p) → brokenAt C (r ∷ p) s ≡ brokenAt C p s
     broken-same s a l =
-        rw (ne-eqb (edge (r ∷ p)) s (λ e. omega arith))
-        (λ i. say s (numberAt p s) (recordAt C p s) (orElse (late-same s a l i) (owed-same s l i)))
+        by-number C (r ∷ p) s
+        ∙ rw (ne-eqb (edge (r ∷ p)) s (λ e. omega arith))
+        (λ i. keep (recordSays (breakAt (checks C)) p s) (keep (told s 0 (late-same s a l i)) (told s 0 (owed-same s l i))))
+        ∙ sym (by-number C p s)
 
     -- the edges before it are as they were
     pub verdict-same : (t : ℕ) → t < edge (r ∷ p) → verdictTo C (r ∷ p) t ≡ verdictTo C p t
@@ -88,8 +74,8 @@ module _ (C : Chip) where
   records-clean [] a h = refl
   records-clean (r ∷ p) a h =
       let e = edge (r ∷ p) in
-      let w = say-clean e (numberAt (r ∷ p) e) (recordAt C (r ∷ p) e) (deadlineAt C (r ∷ p) e) (h e (omega arith) (omega arith)) .0 in
-      let now : breakAt (checks C) r p ≡ Fine = rw (eq-eqb (edge (r ∷ p)) (edge (r ∷ p)) refl) at w in
+      let w = keep-clean _ _ (sym (by-number C (r ∷ p) e) ∙ h e (omega arith) (omega arith)) .0 in
+      let now : breakAt (checks C) r p ≡ Fine = told-clean e (number (r ∷ p)) _ (rw (eq-eqb (edge (r ∷ p)) (edge (r ∷ p)) refl) at w) in
       let old : broken C p ≡ Fine = records-clean p (a .1) (λ s x y. sym (broken-same r p s x (omega arith)) ∙ h s x (omega arith)) in
       rw (old, now)
 
@@ -100,7 +86,7 @@ module _ (C : Chip) where
 
   -- after lo and before e, where only deadlines can pass: x is the first of them before hi
   pub gap-says :
-      (q : Past) (f : ℕ → Break) (lo e hi : ℕ) (x : Late) → lo < e → e ≤ hi → ((t : ℕ) → lo < t → t < e → brokenAt C q t ≡ say t 0 Fine (f t))
+      (q : Past) (f : ℕ → Break) (lo e hi : ℕ) (x : Late) → lo < e → e ≤ hi → ((t : ℕ) → lo < t → t < e → brokenAt C q t ≡ told t 0 (f t))
       → Due f lo hi x → verdictTo C q lo ≡ clean → verdictTo C q (e - 1) ≡ cond (ltb (x .at) e) (stop (x .at) 0 (why x)) clean
   unfolding keep
   gap-says q f lo e hi x far near same d z = ⊎-elim
@@ -112,7 +98,7 @@ module _ (C : Chip) where
       (verdict-next C q (x .at) (omega arith)
       ∙ ap (λ v. keep v (brokenAt C q (x .at))) (before (x .at - 1) (omega arith) (omega arith) (omega arith))
       ∙ same (x .at) a m
-      ∙ ap (say (x .at) 0 Fine) (w .1))))
+      ∙ ap (told (x .at) 0) (w .1))))
       (λ (n : ltb (x .at) e ≡ false).
       let m : e ≤ x .at = ltb-false _ _ n in
       rw n (before (e - 1) (omega arith) (omega arith) (omega arith)))
@@ -120,26 +106,28 @@ module _ (C : Chip) where
     where
       before : (t : ℕ) → lo ≤ t → t < x .at → t < e → verdictTo C q t ≡ clean
       before t l m u =
-          skip-to C q lo t l (λ w a b. same w a (omega arith) ∙ ap (say w 0 Fine) (d .none w a (omega arith) (omega arith))) z
+          skip-to C q lo t l (λ w a b. same w a (omega arith) ∙ ap (told w 0) (d .none w a (omega arith) (omega arith))) z
 
   -- after p, of p itself or of p with one more record
   only-late :
-      0 < C .trefi → (q p : Past) (t : ℕ) → edge p < t → upTo (t - 1) q ≡ p → upTo t q ≡ p → recordAt C q t ≡ Fine
-      → brokenAt C q t ≡ say t 0 Fine (orElse (now24 C p t) (now25 C p t))
+      0 < C .trefi → (q p : Past) (t : ℕ) → edge p < t → upTo (t - 1) q ≡ p → upTo t q ≡ p → recordSays (breakAt (checks C)) q t ≡ clean
+      → brokenAt C q t ≡ told t 0 (orElse (now24 C p t) (now25 C p t))
+  unfolding keep
   only-late z q p t l h g f =
-      ap (λ b. say t (numberAt q t) b (deadlineAt C q t)) f
-      ∙ say-late t (numberAt q t) (deadlineAt C q t)
-      ∙ (λ i. say t 0 Fine (orElse (late24-at C p q t l h i) (late25-at C p z q t g i)))
+      by-number C q t
+      ∙ ap (λ v. keep v (keep (told t 0 (rule24 C q t)) (told t 0 (rule25 C q t)))) f
+      ∙ (λ i. keep (told t 0 (late24-at C p q t l h i)) (told t 0 (late25-at C p z q t g i)))
+      ∙ sym (told-both t 0 (now24 C p t) (now25 C p t))
 
-  pub late-after : 0 < C .trefi → (p : Past) (t : ℕ) → edge p < t → brokenAt C p t ≡ say t 0 Fine (orElse (now24 C p t) (now25 C p t))
-  late-after z p t l = only-late z p p t l (up-to-all (t - 1) p (omega arith)) (up-to-all t p (omega arith)) (record-after p t l)
+  pub late-after : 0 < C .trefi → (p : Past) (t : ℕ) → edge p < t → brokenAt C p t ≡ told t 0 (orElse (now24 C p t) (now25 C p t))
+  late-after z p t l = only-late z p p t l (up-to-all (t - 1) p (omega arith)) (up-to-all t p (omega arith)) (record-after (breakAt (checks C)) p t l)
 
   pub late-between :
       0 < C .trefi → (r : Record) (p : Past) (t : ℕ) → edge p < t → t < edge (r ∷ p)
-      → brokenAt C (r ∷ p) t ≡ say t 0 Fine (orElse (now24 C p t) (now25 C p t))
+      → brokenAt C (r ∷ p) t ≡ told t 0 (orElse (now24 C p t) (now25 C p t))
   late-between z r p t l m =
       only-late z (r ∷ p) p t l (up-to-before r p t l (omega arith)) (up-to-skip t r p m ∙ up-to-all t p (omega arith))
-      (rw (ne-eqb (edge (r ∷ p)) t (λ e. omega arith)) (record-after p t l))
+      (rw (ne-eqb (edge (r ∷ p)) t (λ e. omega arith)) (record-after (breakAt (checks C)) p t l))
 
   -- ── The edge of a record ──────────────────────────────────────────────────────────────────
 
@@ -156,25 +144,27 @@ module _ (C : Chip) where
   small-owed z (r ∷ p) a h =
       let e = edge (r ∷ p) in
       let k = clean-edges C (r ∷ p) e h e (omega arith) (omega arith) in
-      let d = say-clean e (numberAt (r ∷ p) e) (recordAt C (r ∷ p) e) (deadlineAt C (r ∷ p) e) k .1 in
-      let w = orElse-fine (rule24 C (r ∷ p) e) _ d .1 in
+      let d = keep-clean _ _ (keep-clean _ _ (sym (by-number C (r ∷ p) e) ∙ k) .1) .1 in
+      let w = told-clean e 0 (rule25 C (r ∷ p) e) d in
       ⊎-elim
       (λ (y : leb 17 (owedTo (C .trefi) (r ∷ p)) ≡ true).
       absurd (broken-fine (sym (ap (λ b. cond b (Broken 25 (number (latest (is Ref) (r ∷ p))) 8 9) Fine) y) ∙ sym (owing-now z (r ∷ p)) ∙ w)))
       (λ (n : leb 17 (owedTo (C .trefi) (r ∷ p)) ≡ false). omega (arith, leb-false))
       (decide (leb 17 (owedTo (C .trefi) (r ∷ p))))
 
-  -- what the record breaks, by its number, and which deadline passes there
+  -- what the record breaks, by its number, then which deadline passes there
   pub at-record :
       0 < C .trefi → (r : Record) (p : Past) → 1 ≤ r .step
       → brokenAt C (r ∷ p) (edge (r ∷ p))
-      ≡ say (edge (r ∷ p)) (number (r ∷ p)) (breakAt (checks C) r p)
-      (orElse (now24 C p (edge (r ∷ p))) (owing (owedTo (C .trefi) (r ∷ p)) (number (latest (is Ref) (r ∷ p)))))
+      ≡ keep (told (edge (r ∷ p)) (number (r ∷ p)) (breakAt (checks C) r p))
+      (keep (told (edge (r ∷ p)) 0 (now24 C p (edge (r ∷ p))))
+      (told (edge (r ∷ p)) 0 (owing (owedTo (C .trefi) (r ∷ p)) (number (latest (is Ref) (r ∷ p))))))
   at-record z r p far =
       let e = edge (r ∷ p) in
-      rw (eq-eqb (edge (r ∷ p)) (edge (r ∷ p)) refl)
-      (λ i. say e (number (r ∷ p)) (breakAt (checks C) r p)
-      (orElse (late24-at C p (r ∷ p) e (omega arith) (up-to-before r p e (omega arith) (omega arith)) i) (owing-now z (r ∷ p) i)))
+      by-number C (r ∷ p) e
+      ∙ rw (eq-eqb (edge (r ∷ p)) (edge (r ∷ p)) refl)
+      (λ i. keep (told e (number (r ∷ p)) (breakAt (checks C) r p))
+      (keep (told e 0 (late24-at C p (r ∷ p) e (omega arith) (up-to-before r p e (omega arith) (omega arith)) i)) (told e 0 (owing-now z (r ∷ p) i))))
 
 -- a deadline that is not before e passes at e, or not
 pub late-at : (f : ℕ → Break) (lo e hi : ℕ) (x : Late) → lo < e → e < hi → e ≤ x .at → Due f lo hi x → lateAt e x ≡ f e

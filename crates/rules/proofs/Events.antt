@@ -12,7 +12,7 @@ use Rattle.answers.specs.declared.Break.{Break}
 use Rattle.answers.specs.declared.Break.the-variants.{Fine, Broken}
 use Rattle.records.specs.declared.Record.{Record}
 use Rattle.rules.specs.Past.{Past, edge, number, _∈_, here, there, latest, greatest}
-use Rattle.rules.specs.Search.{orElse}
+use Rattle.answers.specs.Answer.{orElse}
 use Rattle.rules.proofs.Generic.{decide, broken-fine}
 
 pub never {ℓ} : {A : Type ℓ} {b : Bool} → b ≡ true → b ≡ false → A

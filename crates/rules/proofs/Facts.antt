@@ -12,7 +12,7 @@ use Rattle.units.proofs.Rounding.{up-least, up-mono, up-more, down-greatest}
 use Rattle.header.specs.declared.Header.{Header}
 use Rattle.header.specs.Bins.{Bin, binOf}
 use Rattle.header.proofs.Bounds.{by-bin}
-use Rattle.registers.specs.Codes.{bit, burst, cl, wr}
+use Rattle.codes.specs.Codes.{bit, burst, cl, wr}
 use Rattle.registers.specs.Allowed.{Span, span, spanOf, clFits, allowed0, allowed}
 use Rattle.chip.specs.declared.Chip.{Chip}
 use Rattle.chip.specs.declared.Regs.{Regs}

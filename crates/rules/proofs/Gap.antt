@@ -15,14 +15,14 @@ use Rattle.answers.specs.declared.Break.{Break}
 use Rattle.answers.specs.declared.Break.the-variants.{Fine, Broken}
 use Rattle.records.specs.declared.Command.the-variants.{Ref}
 use Rattle.chip.specs.declared.Chip.{Chip}
-use Rattle.kept.specs.Marks.{empty}
-use Rattle.next.specs.declared.Late.{Late}
-use Rattle.next.specs.declared.Pick.{Pick}
-use Rattle.next.specs.Next.{due}
-use Rattle.next.specs.Late.{better, soonest, why, sooner}
-use Rattle.judge.specs.Deadlines.{next24, next25, nextLate, owing}
+use Rattle.running.specs.Marks.{empty}
+use Rattle.running.specs.declared.Late.{Late}
+use Rattle.running.specs.declared.Pick.{Pick}
+use Rattle.running.specs.Next.{due}
+use Rattle.running.specs.Late.{better, soonest, why, sooner}
+use Rattle.running.specs.Deadlines.{next24, next25, nextLate, owing}
 use Rattle.rules.specs.Past.{Past, edge, number, is, latest, upTo}
-use Rattle.rules.specs.Search.{orElse, lowest}
+use Rattle.answers.specs.Answer.{orElse, lowest}
 use Rattle.rules.specs.Banks.{status}
 use Rattle.rules.specs.Deadlines.{late, rule24, rule25, asleep, awakeTo, owedTo, owedAt}
 use Rattle.rules.proofs.Generic.{decide}

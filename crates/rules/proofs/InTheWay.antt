@@ -12,14 +12,14 @@ use Rattle.answers.specs.declared.Break.the-variants.{Fine}
 use Rattle.records.specs.declared.Command.{Command}
 use Rattle.records.specs.declared.Command.the-variants.{Mrs, Ref, Pre, Act, Wr, Rd, Zq, Nop, Des, Sre, Srx, Low, Bad}
 use Rattle.records.specs.Command.{isA}
-use Rattle.kept.specs.Breaks as judge
-use Rattle.rules.specs.Search.{orElse, lowest}
+use Rattle.running.specs.Breaks as running
+use Rattle.answers.specs.Answer.{orElse, lowest}
 use Rattle.rules.specs.Rules.{concerns, barred}
 use Rattle.rules.proofs.Events.{never}
 use Rattle.rules.proofs.Words.{or-fine}
 
 -- what a command wants of a bank is what it may find
-pub may-is : (c : Command) (k : Bank) → barred c true k ≡ judge.barredBy (judge.wants c) k
+pub may-is : (c : Command) (k : Bank) → barred c true k ≡ running.barredBy (running.wants c) k
 may-is Mrs Idle = refl
 may-is Mrs (Open a n w) = refl
 may-is Mrs (Closing a n w) = refl
@@ -96,7 +96,7 @@ off-concern Srx a h = refl
 off-concern Low a h = refl
 off-concern Bad a h = refl
 
-pub own-concern : (c : Command) (a : Bool) (k : Bank) → speaks c a ≡ false → barred c (concerns c a true) k ≡ judge.barredBy (judge.wants c) k
+pub own-concern : (c : Command) (a : Bool) (k : Bank) → speaks c a ≡ false → barred c (concerns c a true) k ≡ running.barredBy (running.wants c) k
 own-concern Mrs a k h = never refl h
 own-concern Ref a k h = never refl h
 own-concern Pre true k h = never refl h

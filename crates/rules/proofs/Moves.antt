@@ -17,12 +17,12 @@ use Rattle.records.specs.declared.Command.{Command}
 use Rattle.records.specs.declared.Command.the-variants.{Mrs, Ref, Pre, Act, Wr, Rd, Zq, Sre, Srx}
 use Rattle.records.specs.Command.{a10}
 use Rattle.chip.specs.declared.Chip.{Chip}
-use Rattle.kept.specs.declared.Kept.{Kept}
-use Rattle.kept.specs.Marks.{empty, none}
-use Rattle.next.specs.Next as judge
-use Rattle.next.specs.Said.{noVerdict}
-use Rattle.judge.specs.Step.{turnOf, turnIn, movedOf}
-use Rattle.judge.specs.Calls.{freshShared, freshState, startOf}
+use Rattle.running.specs.declared.Kept.{Kept}
+use Rattle.running.specs.Marks.{empty, none}
+use Rattle.running.specs.Next as running
+use Rattle.running.specs.Said.{noVerdict}
+use Rattle.running.specs.Step.{turnOf, turnIn, movedOf}
+use Rattle.running.specs.Ends.{freshShared, freshRank}
 use Rattle.rules.specs.Deadlines.{asleep, awakeTo, owedTo}
 use Rattle.rules.specs.Past.{Past, edge, number, command, is, bankOf, addressOf, on, latest, greatest}
 use Rattle.rules.specs.Registers.{mrsTo, dllReset, regs}
@@ -37,8 +37,8 @@ use Rattle.rules.proofs.Summary.{mark, mark-at, rdOn, wrOn, startMark, 
 
 -- ── Registers ───────────────────────────────────────────────────────────────────────────────
 
-pub regs-next : (r : Record) (p : Past) → judge.regsNext (command (r ∷ p)) r (regs p) ≡ regs (r ∷ p)
-unfolding regs judge.regsNext
+pub regs-next : (r : Record) (p : Past) → running.regsNext (command (r ∷ p)) r (regs p) ≡ regs (r ∷ p)
+unfolding regs running.regsNext
 regs-next r p = λ i. record { mr0 = go 0 i; mr1 = go 1 i; mr2 = go 2 i; mr3 = go 3 i }
   where
     go : (n : ℕ) → cond (mrsTo n (r ∷ p)) (r .a) (addressOf (latest (mrsTo n) p)) ≡ addressOf (latest (mrsTo n) (r ∷ p))
@@ -84,22 +84,22 @@ module _ (C : Chip) (r : Record) (p : Past) where
   on-own : on (bankOf (r ∷ p)) (r ∷ p) ≡ true
   on-own = eq-eqb (bankOf (r ∷ p)) (bankOf (r ∷ p)) refl
 
-  closes-own : closes own (r ∷ p) ≡ judge.shutsNow c r
+  closes-own : closes own (r ∷ p) ≡ running.shutsNow c r
   closes-own = rw on-own (own-close (is Pre (r ∷ p)) (a10 r) (is Rd (r ∷ p) || is Wr (r ∷ p)))
 
   -- the start, worked out from the ACT of the bank that closes
-  start-now : (b : ℕ) → closes b (r ∷ p) ≡ true → judge.startNow C c e (regs (r ∷ p)) (edge (latest (actOn b) p)) ≡ start C (r ∷ p)
-  unfolding start judge.startNow
+  start-now : (b : ℕ) → closes b (r ∷ p) ≡ true → running.startNow C c e (regs (r ∷ p)) (edge (latest (actOn b) p)) ≡ start C (r ∷ p)
+  unfolding start running.startNow
   start-now b y = go (closing-by b (r ∷ p) y)
     where
-      go : ClosedBy b (r ∷ p) → judge.startNow C c e (regs (r ∷ p)) (edge (latest (actOn b) p)) ≡ start C (r ∷ p)
+      go : ClosedBy b (r ∷ p) → running.startNow C c e (regs (r ∷ p)) (edge (latest (actOn b) p)) ≡ start C (r ∷ p)
       go (by-pre a o) = rw a
-      go (by-rd a o) = ap (λ x. judge.startNow C c e (regs (r ∷ p)) (edge (latest (actOn x) p))) (sym (eqb-true (bankOf (r ∷ p)) b o))
+      go (by-rd a o) = ap (λ x. running.startNow C c e (regs (r ∷ p)) (edge (latest (actOn x) p))) (sym (eqb-true (bankOf (r ∷ p)) b o))
       go (by-wr a o) = rw (is-other Wr Pre (r ∷ p) (λ z. omega arith) a, is-other Wr Rd (r ∷ p) (λ z. omega arith) a)
 
   -- the record's own bank
-  kept-own : judge.keptNext C c r e n (regs (r ∷ p)) (kept C p own) ≡ kept C (r ∷ p) own
-  unfolding kept judge.keptNext
+  kept-own : running.keptNext C c r e n (regs (r ∷ p)) (kept C p own) ≡ kept C (r ∷ p) own
+  unfolding kept running.keptNext
   kept-own = λ i. record {
     acted = part (is Act (r ∷ p)) (mark (need4 C)) (r ∷ p) (latest (actOn own) p) i;
     row = part (is Act (r ∷ p)) addressOf (r ∷ p) (latest (actOn own) p) i;
@@ -111,7 +111,7 @@ module _ (C : Chip) (r : Record) (p : Past) where
       part : {A : Type 0} (x : Bool) (f : Past → A) (s t : Past) → cond x (f s) (f t) ≡ f (cond (x && on own (r ∷ p)) s t)
       part x f s t = rw (on-own, and-true) (push f x s t)
 
-      shut : cond (judge.shutsNow c r) (judge.mark (judge.startNow C c e (regs (r ∷ p)) (mark (need4 C) (latest (actOn own) p) .at)) n (C .trp))
+      shut : cond (running.shutsNow c r) (running.mark (running.startNow C c e (regs (r ∷ p)) (mark (need4 C) (latest (actOn own) p) .at)) n (C .trp))
           (startMark C (latest (closes own) p)) ≡ startMark C (latest (closes own) (r ∷ p))
       shut = ⊎-elim
           (λ (y : closes own (r ∷ p) ≡ true). rw (sym closes-own ∙ y, y, mark-at (need4 C) (latest (actOn own) p), start-now own y))
@@ -119,7 +119,7 @@ module _ (C : Chip) (r : Record) (p : Past) where
           (decide (closes own (r ∷ p)))
 
   -- any other command leaves the other banks
-  kept-off : (b : ℕ) → on b (r ∷ p) ≡ false → judge.preAll c r ≡ false → kept C p b ≡ kept C (r ∷ p) b
+  kept-off : (b : ℕ) → on b (r ∷ p) ≡ false → running.preAll c r ≡ false → kept C p b ≡ kept C (r ∷ p) b
   unfolding kept
   kept-off b o h =
       rw (
@@ -131,8 +131,8 @@ module _ (C : Chip) (r : Record) (p : Past) where
       )
 
   -- a PRE of all banks shuts every bank, and leaves the rest
-  kept-all : (b : ℕ) → judge.preAll c r ≡ true → judge.keptShut C e n (kept C p b) ≡ kept C (r ∷ p) b
-  unfolding kept judge.keptShut
+  kept-all : (b : ℕ) → running.preAll c r ≡ true → running.keptShut C e n (kept C p b) ≡ kept C (r ∷ p) b
+  unfolding kept running.keptShut
   kept-all b y =
       let w = both (is Pre (r ∷ p)) (a10 r) y in
       rw (
@@ -148,8 +148,8 @@ module _ (C : Chip) (r : Record) (p : Past) where
 
   -- of each bank something is kept (f), and after the record something (g)
   each :
-      {A : Type 0} (d : A) (f : ℕ → Kept → A) → judge.preAll c r ≡ false → (b : ℕ)
-      → cond (eqb own b) (f own (judge.keptNext C c r e n (regs (r ∷ p)) (kept C p own))) (f b (kept C p b)) ≡ f b (kept C (r ∷ p) b)
+      {A : Type 0} (d : A) (f : ℕ → Kept → A) → running.preAll c r ≡ false → (b : ℕ)
+      → cond (eqb own b) (f own (running.keptNext C c r e n (regs (r ∷ p)) (kept C p own))) (f b (kept C p b)) ≡ f b (kept C (r ∷ p) b)
   each d f h b = ⊎-elim
       (λ (y : eqb own b ≡ true).
       let q : own ≡ b = eqb-true _ _ y in
@@ -157,52 +157,52 @@ module _ (C : Chip) (r : Record) (p : Past) where
       (λ (z : eqb own b ≡ false). rw z (ap (f b) (kept-off b z h)))
       (decide (eqb own b))
 
-  banks-next : judge.banksNext C c r e n (regs (r ∷ p)) (table (kept C p)) ≡ table (kept C (r ∷ p))
-  unfolding judge.banksNext
+  banks-next : running.banksNext C c r e n (regs (r ∷ p)) (table (kept C p)) ≡ table (kept C (r ∷ p))
+  unfolding running.banksNext
   banks-next = ⊎-elim
-      (λ (y : judge.preAll c r ≡ true).
-      rw y (table-ext (λ b. judge.keptShut C e n (getD (table (kept C p)) b empty)) (kept C (r ∷ p))
-      (λ b l. ap (judge.keptShut C e n) (getD-table (kept C p) b empty l) ∙ kept-all b y)))
-      (λ (z : judge.preAll c r ≡ false).
+      (λ (y : running.preAll c r ≡ true).
+      rw y (table-ext (λ b. running.keptShut C e n (getD (table (kept C p)) b empty)) (kept C (r ∷ p))
+      (λ b l. ap (running.keptShut C e n) (getD-table (kept C p) b empty l) ∙ kept-all b y)))
+      (λ (z : running.preAll c r ≡ false).
       rw (z, getD-table (kept C p) own empty (omega arith))
-      (set-table (kept C p) own (judge.keptNext C c r e n (regs (r ∷ p)) (kept C p own)) (omega arith)
+      (set-table (kept C p) own (running.keptNext C c r e n (regs (r ∷ p)) (kept C p own)) (omega arith)
       ∙ table-ext _ _ (λ b _. each empty (λ b k. k) z b)))
-      (decide (judge.preAll c r))
+      (decide (running.preAll c r))
 
   dues-next :
-      judge.duesNext C c r e n (regs (r ∷ p)) (table (kept C p)) (table (λ b. judge.due C (kept C p b))) ≡ table (λ b. judge.due C (kept C (r ∷ p) b))
-  unfolding judge.duesNext
+      running.duesNext C c r e n (regs (r ∷ p)) (table (kept C p)) (table (λ b. running.due C (kept C p b))) ≡ table (λ b. running.due C (kept C (r ∷ p) b))
+  unfolding running.duesNext
   dues-next = ⊎-elim
-      (λ (y : judge.preAll c r ≡ true).
-      rw y (table-ext (λ b. judge.due C (judge.keptShut C e n (getD (table (kept C p)) b empty))) (λ b. judge.due C (kept C (r ∷ p) b))
-      (λ b l. ap (judge.due C) (ap (judge.keptShut C e n) (getD-table (kept C p) b empty l) ∙ kept-all b y))))
-      (λ (z : judge.preAll c r ≡ false).
+      (λ (y : running.preAll c r ≡ true).
+      rw y (table-ext (λ b. running.due C (running.keptShut C e n (getD (table (kept C p)) b empty))) (λ b. running.due C (kept C (r ∷ p) b))
+      (λ b l. ap (running.due C) (ap (running.keptShut C e n) (getD-table (kept C p) b empty l) ∙ kept-all b y))))
+      (λ (z : running.preAll c r ≡ false).
       rw (z, getD-table (kept C p) own empty (omega arith))
-      (set-table (λ b. judge.due C (kept C p b)) own (judge.due C (judge.keptNext C c r e n (regs (r ∷ p)) (kept C p own))) (omega arith)
-      ∙ table-ext _ _ (λ b _. each 0 (λ b k. judge.due C k) z b)))
-      (decide (judge.preAll c r))
+      (set-table (λ b. running.due C (kept C p b)) own (running.due C (running.keptNext C c r e n (regs (r ∷ p)) (kept C p own))) (omega arith)
+      ∙ table-ext _ _ (λ b _. each 0 (λ b k. running.due C k) z b)))
+      (decide (running.preAll c r))
 
   -- ── What all banks share ──────────────────────────────────────────────────────────────────
 
-  acts-next : judge.actsNext C c e n (acts C p) ≡ acts C (r ∷ p)
-  unfolding acts judge.actsNext
+  acts-next : running.actsNext C c e n (acts C p) ≡ acts C (r ∷ p)
+  unfolding acts running.actsNext
   acts-next = ⊎-elim
       (λ (y : is Act (r ∷ p) ≡ true). rw y)
       (λ (z : is Act (r ∷ p) ≡ false). rw z)
       (decide (is Act (r ∷ p)))
 
-  read-next : judge.readNext C c r e n (regs (r ∷ p)) (readOf C (latest (is Rd) p)) ≡ readOf C (latest (is Rd) (r ∷ p))
-  unfolding judge.readNext
+  read-next : running.readNext C c r e n (regs (r ∷ p)) (readOf C (latest (is Rd) p)) ≡ readOf C (latest (is Rd) (r ∷ p))
+  unfolding running.readNext
   read-next = push (readOf C) (is Rd (r ∷ p)) (r ∷ p) (latest (is Rd) p)
 
-  wrote-next : judge.wroteNext C c e n (regs (r ∷ p)) (wroteOf C (latest (is Wr) p)) ≡ wroteOf C (latest (is Wr) (r ∷ p))
-  unfolding judge.wroteNext
+  wrote-next : running.wroteNext C c e n (regs (r ∷ p)) (wroteOf C (latest (is Wr) p)) ≡ wroteOf C (latest (is Wr) (r ∷ p))
+  unfolding running.wroteNext
   wrote-next = push (wroteOf C) (is Wr (r ∷ p)) (r ∷ p) (latest (is Wr) p)
 
   shut-next :
-      judge.shutNext C c r (judge.startNow C c e (regs (r ∷ p)) (edge (latest (actOn own) p))) n (startMark C (greatest shuts (start C) p))
+      running.shutNext C c r (running.startNow C c e (regs (r ∷ p)) (edge (latest (actOn own) p))) n (startMark C (greatest shuts (start C) p))
       ≡ startMark C (greatest shuts (start C) (r ∷ p))
-  unfolding judge.shutNext
+  unfolding running.shutNext
   shut-next = ⊎-elim
       (λ (y : shuts (r ∷ p) ≡ true).
       rw (y, start-now own (closes-own ∙ y), start-mark-at C (greatest shuts (start C) p))
@@ -210,12 +210,12 @@ module _ (C : Chip) (r : Record) (p : Past) where
       (λ (z : shuts (r ∷ p) ≡ false). rw z)
       (decide (shuts (r ∷ p)))
 
-  written-next : judge.writtenNext c r (written C p) ≡ written C (r ∷ p)
-  unfolding written judge.writtenNext
+  written-next : running.writtenNext c r (written C p) ≡ written C (r ∷ p)
+  unfolding written running.writtenNext
   written-next = refl
 
-  rests-next : judge.restsNext C c r e n (rests C p) ≡ rests C (r ∷ p)
-  unfolding rests judge.restsNext
+  rests-next : running.restsNext C c r e n (rests C p) ≡ rests C (r ∷ p)
+  unfolding rests running.restsNext
   rests-next = λ i. record {
     refreshed = push (mark (λ _. C .trfc)) (is Ref (r ∷ p)) (r ∷ p) (latest (is Ref) p) i;
     tuned = push (mark (need18 C)) (is Zq (r ∷ p)) (r ∷ p) (latest (is Zq) p) i;
@@ -225,8 +225,8 @@ module _ (C : Chip) (r : Record) (p : Past) where
   }
 
   -- the judge's change of what all banks share keeps the summary
-  pub shared-next : 0 < C .trefi → judge.sharedNext C c r e n (edge (latest (actOn own) p)) (shared C p) ≡ shared C (r ∷ p)
-  unfolding shared judge.sharedNext judge.markedNext
+  pub shared-next : 0 < C .trefi → running.sharedNext C c r e n (edge (latest (actOn own) p)) (shared C p) ≡ shared C (r ∷ p)
+  unfolding shared running.sharedNext running.markedNext
   shared-next pos = rw (regs-next r p) (λ i. record {
     now = e;
     level = r .cke;
@@ -250,13 +250,12 @@ module _ (C : Chip) (r : Record) (p : Past) where
   -- what all banks share after the record
   pub turn-shared : 0 < C .trefi → turnIn C (summary C p) r .shared ≡ shared C (r ∷ p)
   unfolding turnIn turnOf summary shared
-  turn-shared pos = ap (λ (a : ℕ). judge.sharedNext C c r e n a (shared C p)) bank-act ∙ shared-next pos
+  turn-shared pos = ap (λ (a : ℕ). running.sharedNext C c r e n a (shared C p)) bank-act ∙ shared-next pos
 
   -- a clean record takes the summary of the past to the summary with it
   pub moved-summary : movedOf C (summary C p) r (shared C (r ∷ p)) ≡ summary C (r ∷ p)
   unfolding movedOf summary shared
   moved-summary = λ i. record {
-    header = C .header;
     edge = e;
     count = n;
     first = noVerdict;
@@ -266,15 +265,14 @@ module _ (C : Chip) (r : Record) (p : Past) where
   }
 
 -- before the first record
-pub summary-fresh : (C : Chip) → summary C [] ≡ startOf (C .header)
-unfolding summary shared acts rests debtOf regs written kept table asleep awakeTo owedTo freshState freshShared judge.due
+pub summary-fresh : (C : Chip) → summary C [] ≡ freshRank true 8
+unfolding summary shared acts rests debtOf regs written kept table asleep awakeTo owedTo freshRank freshShared running.due
 summary-fresh C = λ i. record {
-  header = C .header;
   edge = 0;
   count = 0;
   first = noVerdict;
   banks = table (kept C []);
-  dues = table-ext (λ b. judge.due C (kept C [] b)) (λ b. 0) (λ b _. not-due) i;
+  dues = table-ext (λ b. running.due C (kept C [] b)) (λ b. 0) (λ b _. not-due) i;
   shared = record {
     now = 0;
     level = true;

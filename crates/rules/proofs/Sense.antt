@@ -11,22 +11,14 @@ use mathlib.Core.List.{[], _∷_}
 use lib.Dec.{ltb}
 use borrow.Author.Tests.{ltb-true, ltb-false}
 use Rattle.answers.specs.declared.Break.{Break}
-use Rattle.answers.specs.declared.Break.the-variants.{Fine, Broken}
+use Rattle.answers.specs.declared.Break.the-variants.{Broken}
 use Rattle.chip.specs.declared.Chip.{Chip}
 use Rattle.rules.specs.Past.{Past, edge, number, _∈_, here, there}
 use Rattle.rules.specs.Search.{lookBack}
-use Rattle.rules.specs.Deadlines.{deadlineAt}
-use Rattle.rules.specs.Verdict.{recordAt, numberAt, Outcome, clean, stop, say, brokenAt, keep, verdictTo}
+use Rattle.rules.specs.Verdict.{Outcome, clean, stop, brokenAt, keep, verdictTo}
 use Rattle.rules.proofs.Generic.{decide}
 use Rattle.rules.proofs.Events.{number-le}
-
-pub stop-clean {ℓ} : {A : Type ℓ} {t n : ℕ} {b : Break} → stop t n b ≡ clean → A
-stop-clean h = let z : _≡_ {A = ℕ} 0 1 = cc in absurd (omega arith)
-
-pub keep-clean : (v w : Outcome) → keep v w ≡ clean → (v ≡ clean) × (w ≡ clean)
-unfolding keep
-keep-clean clean w h = (refl, h)
-keep-clean (stop t n b) w h = stop-clean h
+use Rattle.rules.proofs.Numbered.{stop-clean, keep-clean, broken-at}
 
 module _ (C : Chip) (q : Past) where
   pub verdict-next : (t : ℕ) → 0 < t → verdictTo C q t ≡ keep (verdictTo C q (t - 1)) (brokenAt C q t)
@@ -79,18 +71,11 @@ module _ (C : Chip) (q : Past) where
   stop-at zero t n b h = stop-clean (sym h)
   stop-at (suc u) t n b h = go (verdictTo C q u) refl h (λ z. stop-at u t n b z)
     where
-      found : (m : ℕ) (x d : Break) → verdictTo C q (suc u) ≡ say (suc u) m x d → say (suc u) m x d ≡ stop t n b → (t ≤ suc u) × (verdictTo C q t ≡ stop t n b)
-      found m Fine Fine z e = stop-clean (sym e)
-      found m Fine (Broken k x y f) z e =
-          let w : suc u ≡ t = cc in
-          (omega arith, subst (λ s. verdictTo C q s ≡ stop t n b) w (z ∙ e))
-      found m (Broken k x y f) d z e =
-          let w : suc u ≡ t = cc in
-          (omega arith, subst (λ s. verdictTo C q s ≡ stop t n b) w (z ∙ e))
-
       go : (v : Outcome) → verdictTo C q u ≡ v → keep v (brokenAt C q (suc u)) ≡ stop t n b
           → (verdictTo C q u ≡ stop t n b → (t ≤ u) × (verdictTo C q t ≡ stop t n b)) → (t ≤ suc u) × (verdictTo C q t ≡ stop t n b)
-      go clean z e ih = found (numberAt q (suc u)) (recordAt C q (suc u)) (deadlineAt C q (suc u)) (ap (λ v. keep v (brokenAt C q (suc u))) z) e
+      go clean z e ih =
+          let w = broken-at C q (suc u) t n b e in
+          (omega arith, subst (λ s. verdictTo C q s ≡ stop t n b) w (ap (λ v. keep v (brokenAt C q (suc u))) z ∙ e))
       go (stop w m c) z e ih = let i = ih (z ∙ e) in (omega arith, i .1)
 
   -- that is after every edge up to which it is clean

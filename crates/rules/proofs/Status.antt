@@ -8,9 +8,9 @@ use mathlib.Core.Bool.{Bool, true, false, cond}
 use mathlib.Core.List.{[], _∷_}
 use lib.Dec.{ltb, leb, eqb}
 use borrow.Author.Tests.{ltb-true, ltb-false, lt-ltb, le-ltb, leb-true, leb-false, le-leb, ne-eqb}
-use Rattle.kept.specs.declared.Kept.{Kept}
-use Rattle.kept.specs.Breaks.{statusOf}
-use Rattle.next.specs.Next.{due}
+use Rattle.running.specs.declared.Kept.{Kept}
+use Rattle.running.specs.Breaks.{statusOf}
+use Rattle.running.specs.Next.{due}
 use Rattle.rules.proofs.Generic.{decide}
 use Rattle.rules.proofs.Clean.{is-other, ClosedBy, by-pre, by-rd, by-wr, closing-by}
 use Rattle.rules.proofs.Summary.{mark, mark-at, startMark, start-mark-at, kept}

@@ -7,17 +7,17 @@ use mathlib.Core.List.{List, [], _∷_}
 use Rattle.laws.specs.Eight.{table}
 use Rattle.records.specs.declared.Command.the-variants.{Mrs, Ref, Act, Wr, Rd, Zq, Sre, Srx}
 use Rattle.chip.specs.declared.Chip.{Chip}
-use Rattle.kept.specs.declared.Mark.{Mark}
-use Rattle.kept.specs.declared.Kept.{Kept}
-use Rattle.kept.specs.declared.Read.{Read}
-use Rattle.kept.specs.declared.Wrote.{Wrote}
-use Rattle.kept.specs.declared.Written.{Written}
-use Rattle.kept.specs.declared.Rests.{Rests}
-use Rattle.kept.specs.declared.Shared.{Shared}
-use Rattle.kept.specs.Marks.{none}
-use Rattle.judge.specs.declared.State.{State}
-use Rattle.next.specs.Said.{noVerdict}
-use Rattle.next.specs.Next as judge
+use Rattle.running.specs.declared.Mark.{Mark}
+use Rattle.running.specs.declared.Kept.{Kept}
+use Rattle.running.specs.declared.Read.{Read}
+use Rattle.running.specs.declared.Wrote.{Wrote}
+use Rattle.running.specs.declared.Written.{Written}
+use Rattle.running.specs.declared.Rests.{Rests}
+use Rattle.running.specs.declared.Shared.{Shared}
+use Rattle.running.specs.Marks.{none}
+use Rattle.running.specs.declared.Rank.{Rank}
+use Rattle.running.specs.Said.{noVerdict}
+use Rattle.running.specs.Next as running
 use Rattle.rules.specs.Past.{Past, edge, number, cke, is, addressOf, on, latest, back, has, greatest}
 use Rattle.rules.specs.Registers.{mrsTo, dllReset, regs}
 use Rattle.rules.specs.Banks.{actOn, closes, shuts, start}
@@ -106,14 +106,13 @@ module _ (C : Chip) where
       }
 
   -- the state after a past in which nothing is broken
-  unfoldable pub summary : Past → State
+  unfoldable pub summary : Past → Rank
   summary p =
       record {
-        header = C .header;
         edge = edge p;
         count = number p;
         first = noVerdict;
         banks = table (kept p);
-        dues = table (λ b. judge.due C (kept p b));
+        dues = table (λ b. running.due C (kept p b));
         shared = shared p;
       }

@@ -16,27 +16,25 @@ use Rattle.answers.specs.declared.Verdict.{Verdict}
 use Rattle.records.specs.declared.Record.{Record}
 use Rattle.records.specs.declared.Command.the-variants.{Ref}
 use Rattle.chip.specs.declared.Chip.{Chip}
-use Rattle.kept.specs.declared.Shared.{Shared}
-use Rattle.kept.specs.Marks.{empty}
-use Rattle.kept.specs.Breaks as breaks
-use Rattle.next.specs.declared.Late.{Late}
-use Rattle.judge.specs.declared.State.{State}
-use Rattle.next.specs.Late.{why, sooner}
-use Rattle.judge.specs.Deadlines.{next24, next25, nextLate, owing}
-use Rattle.next.specs.Said.{noVerdict, say, lateAt}
-use Rattle.judge.specs.Step.{saysBy, turnOf, turnIn}
+use Rattle.running.specs.declared.Shared.{Shared}
+use Rattle.running.specs.Marks.{empty}
+use Rattle.running.specs.Breaks as breaks
+use Rattle.running.specs.declared.Late.{Late}
+use Rattle.running.specs.declared.Rank.{Rank}
+use Rattle.running.specs.Late.{why, sooner}
+use Rattle.running.specs.Deadlines.{next24, next25, nextLate, owing}
+use Rattle.running.specs.Said.{noVerdict, first, verdictAt, lateAt}
+use Rattle.running.specs.Step.{saysBy, turnOf, turnIn}
 use Rattle.rules.specs.Past.{Past, edge, number, command, is, bankOf, latest}
-use Rattle.rules.specs.Search.{orElse}
+use Rattle.answers.specs.Answer.{orElse}
 use Rattle.rules.specs.Rules.{checks, breakAt}
 use Rattle.rules.specs.Deadlines.{owedTo}
-use Rattle.rules.specs.Verdict as rules
-use Rattle.rules.specs.Verdict.{Outcome, clean, stop, keep, verdictTo, shown, Apart}
+use Rattle.rules.specs.Verdict.{Outcome, clean, stop, keep, told, verdictTo, shown, Apart}
 use Rattle.rules.proofs.Facts.{Sound}
 use Rattle.rules.proofs.Debts.{debtOf}
 use Rattle.rules.proofs.Summary.{kept, written, rests, shared, summary}
 use Rattle.rules.proofs.Moves.{turn-shared}
 use Rattle.rules.proofs.Status.{mark-num}
-use Rattle.rules.proofs.Words.{or-same}
 use Rattle.rules.proofs.Agree.{record-agrees}
 use Rattle.rules.proofs.Sense.{verdict-next}
 use Rattle.rules.proofs.Gap.{now24, now25, due24, due-next}
@@ -49,10 +47,15 @@ abbrev pub said : Outcome → Verdict
 said clean = noVerdict
 said (stop t n why) = shown (stop t n why) 0 0
 
-say-said : (e n : ℕ) (b d : Break) → say e n b d ≡ said (rules.say e n b d)
-say-said e n (Broken k x m f) d = refl
-say-said e n Fine Fine = refl
-say-said e n Fine (Broken k x m f) = refl
+told-said : (e n : ℕ) (b : Break) → verdictAt e n b ≡ said (told e n b)
+told-said e n Fine = refl
+told-said e n (Broken k x m f) = refl
+
+first-said : (v w : Outcome) → first (said v) (said w) ≡ said (keep v w)
+unfolding keep
+first-said clean w = refl
+first-said (stop t n Fine) w = refl
+first-said (stop t n (Broken k x m f)) w = refl
 
 sooner-first : (x y : Late) → sooner x y .at ≤ x .at
 unfolding sooner
@@ -66,20 +69,32 @@ sooner-first x y = go (leb (x .at) (y .at)) refl
 abbrev passing : Late → ℕ → Outcome
 passing x e = cond (ltb (x .at) e) (stop (x .at) 0 (why x)) clean
 
+-- by number: what the record breaks, then the two deadlines
+said-by-number :
+    (e n : ℕ) (b c d : Break)
+    → first (verdictAt e n b) (first (verdictAt e 0 c) (verdictAt e 0 d)) ≡ said (keep (told e n b) (keep (told e 0 c) (told e 0 d)))
+said-by-number e n b c d =
+    (λ i. first (told-said e n b i) (first (told-said e 0 c i) (told-said e 0 d i)))
+    ∙ ap (first (said (told e n b))) (first-said (told e 0 c) (told e 0 d))
+    ∙ first-said (told e n b) (keep (told e 0 c) (told e 0 d))
+
 says-said :
     (e n : ℕ) (x24 x25 : Late) (b d : Break) (owed partner : ℕ) → (e ≤ x24 .at → lateAt e x24 ≡ d)
-    → saysBy e n x24 x25 b owed partner ≡ said (keep (passing (sooner x24 x25) e) (rules.say e n b (orElse d (owing owed partner))))
+    → saysBy e n x24 x25 b owed partner
+    ≡ said (keep (passing (sooner x24 x25) e) (keep (told e n b) (keep (told e 0 d) (told e 0 (owing owed partner)))))
 unfolding saysBy keep
 says-said e n x24 x25 b d owed partner h = go (ltb (sooner x24 x25 .at) e) refl
   where
     go :
         (x : Bool) → ltb (sooner x24 x25 .at) e ≡ x
-        → cond x (said (stop (sooner x24 x25 .at) 0 (why (sooner x24 x25)))) (say e n b (breaks.orElse (lateAt e x24) (owing owed partner)))
-        ≡ said (keep (cond x (stop (sooner x24 x25 .at) 0 (why (sooner x24 x25))) clean) (rules.say e n b (orElse d (owing owed partner))))
+        → cond x (said (stop (sooner x24 x25 .at) 0 (why (sooner x24 x25))))
+        (first (verdictAt e n b) (first (verdictAt e 0 (lateAt e x24)) (verdictAt e 0 (owing owed partner))))
+        ≡ said (keep (cond x (stop (sooner x24 x25 .at) 0 (why (sooner x24 x25))) clean) (keep (told e n b) (keep (told e 0 d) (told e 0 (owing owed partner)))))
     go true y = refl
     go false z =
-        ap (say e n b) (or-same (lateAt e x24) (owing owed partner) ∙ ap (λ c. orElse c (owing owed partner)) (h (omega (arith, ltb-false, sooner-first x24 x25))))
-        ∙ say-said e n b (orElse d (owing owed partner))
+        ap (λ c. first (verdictAt e n b) (first (verdictAt e 0 c) (verdictAt e 0 (owing owed partner))))
+        (h (omega (arith, ltb-false, sooner-first x24 x25)))
+        ∙ said-by-number e n b d (owing owed partner)
 
 module _ (C : Chip) (S : Sound C) where
   -- ── One record ────────────────────────────────────────────────────────────────────────────
@@ -91,7 +106,7 @@ module _ (C : Chip) (S : Sound C) where
     abbrev n : ℕ
     n = number (r ∷ p)
 
-    abbrev s : State
+    abbrev s : Rank
     s = summary C p
 
     turn-parts :

@@ -3,7 +3,7 @@
 use Prim.Native.Nat.{ℕ, _-_, _≤_, _<_}
 use native.Mathlib.Omega.{arith}
 use mathlib.Core.Path.{_≡_, refl, sym, ap, _∙_}
-use mathlib.Core.Bool.{false, cond}
+use mathlib.Core.Bool.{true, false, cond}
 use mathlib.Core.List.{List, [], _∷_, reverseAux}
 use Rattle.laws.specs.Eight.{table}
 use Rattle.answers.specs.declared.Break.{Break}
@@ -11,11 +11,11 @@ use Rattle.answers.specs.declared.Break.the-variants.{Fine, Broken}
 use Rattle.answers.specs.declared.Verdict.{Verdict}
 use Rattle.records.specs.declared.Record.{Record}
 use Rattle.chip.specs.declared.Chip.{Chip}
-use Rattle.judge.specs.declared.State.{State}
-use Rattle.next.specs.Next.{due}
-use Rattle.next.specs.Said.{noVerdict, cleanAt}
-use Rattle.judge.specs.Step.{isClean, turnIn, movedOf, stoppedOf, stepOf, foldOf, soFar}
-use Rattle.judge.specs.Calls.{startOf}
+use Rattle.running.specs.declared.Rank.{Rank}
+use Rattle.running.specs.Next.{due}
+use Rattle.running.specs.Said.{noVerdict, cleanAt, isClean}
+use Rattle.running.specs.Step.{turnIn, movedOf, stoppedOf, stepOf, foldOf, soFar}
+use Rattle.running.specs.Ends.{freshRank}
 use Rattle.rules.specs.Past.{Past, edge, number, upTo}
 use Rattle.rules.specs.Verdict.{Outcome, clean, stop, verdictTo, shown, verdictSoFar, rest, Apart, Steps}
 use Rattle.rules.proofs.Facts.{Sound}
@@ -26,10 +26,9 @@ use Rattle.rules.proofs.Edges.{up-to-all, up-to-skip, up-to-before, ver
 use Rattle.rules.proofs.Turn.{said, turn-says}
 
 -- the state that counts the records of p, keeps the summary of q and says v
-unfoldable pub frozen : Chip → (p q : Past) → Verdict → State
+unfoldable pub frozen : Chip → (p q : Past) → Verdict → Rank
 frozen C p q v =
     record {
-      header = C .header;
       edge = edge p;
       count = number p;
       first = v;
@@ -40,10 +39,10 @@ frozen C p q v =
 
 -- The judge's state after the recording p, of which the rules say v: all of p is counted, and what is kept is kept of the records
 -- before the broken edge.
-unfoldable pub carriedBy : Chip → Outcome → Past → State
+unfoldable pub carriedBy : Chip → Outcome → Past → Rank
 carriedBy C v p = frozen C p (upTo (rest v (edge p)) p) (said v)
 
-abbrev pub carried : Chip → Past → State
+abbrev pub carried : Chip → Past → Rank
 carried C p = carriedBy C (verdictTo C p (edge p)) p
 
 -- a stop is no clean verdict
@@ -68,7 +67,7 @@ module _ (C : Chip) (S : Sound C) where
   unfolding stepOf carriedBy frozen summary
   clean-next r p far apart z v e = ap by (turn-says C S r p far apart z ∙ ap said e) ∙ go v e
     where
-      by : Verdict → State
+      by : Verdict → Rank
       by w = cond (isClean w) (movedOf C (summary C p) r (turnIn C (summary C p) r .shared)) (stoppedOf (summary C p) r w)
 
       go : (v : Outcome) → verdictTo C (r ∷ p) (edge (r ∷ p)) ≡ v → by (said v) ≡ carriedBy C v (r ∷ p)
@@ -105,7 +104,7 @@ module _ (C : Chip) (S : Sound C) where
       ap (λ x. foldOf C x rs) (step-carried r p (s .0) apart) ∙ fold-carried rs (r ∷ p) (s .1) (s .0, apart)
 
 -- before the first record
-pub start-carried : (C : Chip) → startOf (C .header) ≡ carried C []
+pub start-carried : (C : Chip) → freshRank true 8 ≡ carried C []
 unfolding verdictTo
 start-carried C = sym (summary-fresh C) ∙ sym (carried-clean C [])
 

@@ -1,6 +1,6 @@
 -- The judge's words and the rules': a check of one mark, and the marks that the judge keeps, as what the rules look back for.
 -- Assumes nothing.
-use Prim.Native.Nat.{ℕ, zero, suc, _-_}
+use Prim.Native.Nat.{ℕ, _-_}
 use native.Mathlib.Omega.{arith}
 use mathlib.Core.Path.{_≡_, refl, sym, ap, _∙_, fun-ext}
 use mathlib.Core.Logic.{⊎-elim}
@@ -13,12 +13,13 @@ use Rattle.answers.specs.declared.Break.the-variants.{Fine, Broken}
 use Rattle.records.specs.declared.Record.{Record}
 use Rattle.records.specs.declared.Command.the-variants.{Ref, Srx}
 use Rattle.chip.specs.declared.Chip.{Chip}
-use Rattle.kept.specs.declared.Mark.{Mark}
-use Rattle.kept.specs.Marks.{needing, as10, as11, as13, as14, as19}
-use Rattle.kept.specs.Marks as marks
-use Rattle.kept.specs.Breaks as judge
+use Rattle.running.specs.declared.Mark.{Mark}
+use Rattle.running.specs.Marks.{needing, as10, as11, as13, as14, as19}
+use Rattle.running.specs.Marks as marks
+use Rattle.running.specs.Breaks as running
 use Rattle.rules.specs.Past.{Past, edge, number, is, on, latest, back}
-use Rattle.rules.specs.Search.{orElse, lowest, short, Spacing, row}
+use Rattle.answers.specs.Answer.{orElse}
+use Rattle.rules.specs.Search.{short, Spacing, row}
 use Rattle.rules.specs.Rules.{r4, r6, r7, r9, r10, r11, r12r, r12w, r13, r14, r15, r16, r17, r18, r19, r20, r21, r22, rule5, rule8, rule23, spaced, since, fourth}
 use Rattle.rules.proofs.Generic.{decide, checkOf, Dominated, edge-reached, latest-only}
 use Rattle.rules.proofs.Events.{latest-is}
@@ -27,22 +28,12 @@ use Rattle.rules.proofs.Dominate.{need10, need11, need13, need14, need1
 use Rattle.rules.proofs.Summary.{mark, startMark, readOf, wroteOf}
 use Rattle.rules.proofs.Status.{latest-number}
 
-pub or-same : (a b : Break) → judge.orElse a b ≡ orElse a b
-unfolding judge.orElse orElse
-or-same Fine b = refl
-or-same (Broken k n m f) b = refl
-
-pub lowest-same : (f : ℕ → Break) (n : ℕ) → judge.lowest f n ≡ lowest f n
-unfolding judge.lowest lowest
-lowest-same f zero = refl
-lowest-same f (suc n) = or-same (judge.lowest f n) (f n) ∙ ap (λ b. orElse b (f n)) (lowest-same f n)
-
 -- the check of one mark, by itself
 abbrev pub check : (k e : ℕ) → Mark → Break
 check k e m = short k e (m .at) (m .num) (m .need) Fine
 
 -- a check that is made where x holds, before the rest
-when-is : (x : Bool) (k e : ℕ) (m : Mark) (rest : Break) → judge.whenIs x k e m rest ≡ orElse (cond x (check k e m) Fine) rest
+when-is : (x : Bool) (k e : ℕ) (m : Mark) (rest : Break) → running.whenIs x k e m rest ≡ orElse (cond x (check k e m) Fine) rest
 unfolding marks.spaced orElse
 when-is false k e m rest = refl
 when-is true k e m rest = go (ltb (e - m .at) (m .need))
@@ -52,7 +43,7 @@ when-is true k e m rest = go (ltb (e - m .at) (m .need))
     go false = refl
 
 -- one rule more
-pub also : (x : Bool) (k e : ℕ) (m : Mark) {R rest others : Break} → cond x (check k e m) Fine ≡ R → rest ≡ others → judge.whenIs x k e m rest ≡ orElse R others
+pub also : (x : Bool) (k e : ℕ) (m : Mark) {R rest others : Break} → cond x (check k e m) Fine ≡ R → rest ≡ others → running.whenIs x k e m rest ≡ orElse R others
 also x k e m {R} {rest} {others} p q = when-is x k e m rest ∙ (λ i. orElse (p i) (q i))
 
 check-mark : (k e : ℕ) (need : Past → ℕ) (s : Past) → check k e (mark need s) ≡ checkOf edge k e need s

@@ -12,7 +12,7 @@ use Rattle.answers.specs.declared.Break.{Break}
 use Rattle.answers.specs.declared.Break.the-variants.{Fine, Broken}
 use Rattle.rules.specs.Past.{Past, edge, number, is, latest, upTo}
 use Rattle.rules.specs.Banks.{actNum, status}
-use Rattle.rules.specs.Search.{orElse, lowest}
+use Rattle.answers.specs.Answer.{lowest}
 
 -- ── Rule 24 ─────────────────────────────────────────────────────────────────────────────────
 
@@ -59,9 +59,3 @@ owedAt T p t = owedTo T p + (awakeAt p t / T - awakeTo p / T)
 -- rule 25 at edge t of the recording p: "broken at 9 after the edge's command"; "25 the last REF or none"; "needed 8, found 9"
 abbrev pub rule25 : Chip → Past → ℕ → Break
 rule25 C p t = let q = upTo t p in cond (leb 17 (owedAt (C .trefi) q t)) (Broken 25 (number (latest (is Ref) q)) 8 9) Fine
-
--- ── Both ────────────────────────────────────────────────────────────────────────────────────
-
--- what passes at edge t with or without a record, by number
-abbrev pub deadlineAt : Chip → Past → ℕ → Break
-deadlineAt C p t = orElse (rule24 C p t) (rule25 C p t)

@@ -5,4 +5,3 @@ pub mod Search
 pub mod Rules
 pub mod Deadlines
 pub mod Verdict
-pub mod Recording

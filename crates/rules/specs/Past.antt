@@ -2,16 +2,21 @@
 -- Assumes nothing.
 use Prim.Native.Nat.{ℕ, zero, suc, _+_}
 use mathlib.Core.Bool.{Bool, true, false, cond, _||_}
-use mathlib.Core.List.{List, [], _∷_}
+use mathlib.Core.List.{List, [], _∷_, reverse}
 use lib.Dec.{eqb, leb}
 use Rattle.records.specs.declared.Record.{Record}
 use Rattle.records.specs.declared.Command.{Command}
 use Rattle.records.specs.declared.Command.the-variants.{Wr, Rd, Nop}
+use Rattle.records.specs.Record.{records}
 use Rattle.records.specs.Command.{commandOf, isA, counts, a10, bankIn}
 
 -- What was recorded so far, LATEST FIRST. An event is a past that is not empty: its head is a record, its tail all that came before it.
 abbrev pub Past : Type 0
 Past = List Record
+
+-- the recording of a section's bytes
+abbrev pub recording : List ℕ → Past
+recording bs = reverse (records bs)
 
 -- s is an event of p
 infix 40 _∈_

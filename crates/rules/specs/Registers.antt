@@ -4,7 +4,7 @@
 use Prim.Native.Nat.{ℕ, _+_}
 use mathlib.Core.Bool.{Bool, _&&_}
 use Rattle.records.specs.declared.Command.the-variants.{Mrs}
-use Rattle.registers.specs.Codes.{resets}
+use Rattle.codes.specs.Codes.{resets}
 use Rattle.chip.specs.declared.Regs.{Regs}
 use Rattle.chip.specs.Latencies.{alOf, clOf, cwlOf, wrOf, hOf, bOf}
 use Rattle.rules.specs.Past.{Past, is, on, addressOf, latest, has}

@@ -16,7 +16,8 @@ use Rattle.answers.specs.declared.Break.the-variants.{Fine, Broken}
 use Rattle.rules.specs.Past.{Past, edge, number, command, is, anyCommand, column, bankOf, on, a10Of, latest, back, has, greatest}
 use Rattle.rules.specs.Registers.{dllReset, mr, al, cl, cwl, rl, wl, h, b}
 use Rattle.rules.specs.Banks.{closes, shuts, isIdle, isOpen, notClosing, actNum, start, status}
-use Rattle.rules.specs.Search.{orElse, lowest, short, Spacing, least, row}
+use Rattle.answers.specs.Answer.{orElse, lowest}
+use Rattle.rules.specs.Search.{short, Spacing, least, row}
 
 -- ── The words of rules 2 and 3 ──────────────────────────────────────────────────────────────
 

@@ -1,6 +1,6 @@
 -- How the record that breaks a rule is found: 01, "Least spacings" and "Partner: the latest earlier record breaking the rule".
 -- Assumes nothing.
-use Prim.Native.Nat.{ℕ, zero, suc, _-_}
+use Prim.Native.Nat.{ℕ, _-_}
 use mathlib.Core.Bool.{Bool, cond}
 use mathlib.Core.List.{[], _∷_}
 use lib.Dec.{ltb}
@@ -8,16 +8,6 @@ use Rattle.records.specs.declared.Record.{Record}
 use Rattle.answers.specs.declared.Break.{Break}
 use Rattle.answers.specs.declared.Break.the-variants.{Fine, Broken}
 use Rattle.rules.specs.Past.{Past, edge, number}
-
--- the first of two breaks
-unfoldable pub orElse : Break → Break → Break
-orElse Fine c = c
-orElse (Broken rule partner needed found) c = Broken rule partner needed found
-
--- the first break of the banks below n
-unfoldable pub lowest : (ℕ → Break) → ℕ → Break
-lowest f zero = Fine
-lowest f (suc n) = orElse (lowest f n) (f n)
 
 -- rule k at the edge e, where the event number num, at the edge at, asks `need` clocks
 abbrev pub short : (k e at num need : ℕ) → Break → Break

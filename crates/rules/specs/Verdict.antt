@@ -4,50 +4,73 @@ use Prim.Native.Nat.{ℕ, zero, suc, _-_, _≤_}
 use mathlib.Core.Bool.{cond}
 use mathlib.Core.List.{List, [], _∷_}
 use lib.Dec.{eqb}
+use Rattle.laws.specs.Eight.{table}
 use Rattle.records.specs.declared.Record.{Record}
 use Rattle.chip.specs.declared.Chip.{Chip}
 use Rattle.answers.specs.declared.Bank.{Bank}
 use Rattle.answers.specs.declared.Break.{Break}
 use Rattle.answers.specs.declared.Break.the-variants.{Fine, Broken}
 use Rattle.answers.specs.declared.Verdict.{Verdict}
+use Rattle.answers.specs.declared.Register.{Register as Answered}
+use Rattle.answers.specs.declared.End.{End}
+use Rattle.answers.specs.Answer.{shownOf}
 use Rattle.rules.specs.Past.{Past, edge, number, upTo}
 use Rattle.rules.specs.Registers.{Register, mr}
 use Rattle.rules.specs.Banks.{status}
-use Rattle.rules.specs.Rules.{checks, breakAt}
-use Rattle.rules.specs.Deadlines.{owedAt, deadlineAt}
+use Rattle.rules.specs.Rules.{checks}
+use Rattle.rules.specs.Deadlines.{rule24, rule25, owedAt}
 
 -- ── An edge ─────────────────────────────────────────────────────────────────────────────────
-
--- what the record at edge t of the recording p breaks
-abbrev pub recordAt : Chip → Past → ℕ → Break
-recordAt C [] t = Fine
-recordAt C (r ∷ p) t = cond (eqb (edge (r ∷ p)) t) (breakAt (checks C) r p) (recordAt C p t)
-
--- the number of that record; 0 if there is none
-abbrev pub numberAt : Past → ℕ → ℕ
-numberAt [] t = 0
-numberAt (r ∷ p) t = cond (eqb (edge (r ∷ p)) t) (number (r ∷ p)) (numberAt p t)
 
 -- no broken edge, or the first: its record, 0 if none, and what is broken there
 pub data Outcome : Type 0 where
   clean : Outcome
   stop : (edge num : ℕ) (why : Break) → Outcome
 
--- at edge t: what its record, number n, breaks; else the deadline that passes, "24 and 25: record none"
-abbrev pub say : (t n : ℕ) (broken passed : Break) → Outcome
-say t n (Broken rule partner needed found) d = stop t n (Broken rule partner needed found)
-say t n Fine (Broken rule partner needed found) = stop t 0 (Broken rule partner needed found)
-say t n Fine Fine = clean
-
--- the lowest rule broken at edge t: 1 to 23 by its record, then 24 and 25
-abbrev pub brokenAt : Chip → Past → ℕ → Outcome
-brokenAt C p t = say t (numberAt p t) (recordAt C p t) (deadlineAt C p t)
-
--- ── The verdict ─────────────────────────────────────────────────────────────────────────────
-
+-- of two outcomes the first that stops
 unfoldable pub keep : Outcome → Outcome → Outcome
 keep clean w = w
 keep (stop t n why) w = stop t n why
+
+-- a break at edge t with the number of its record, 0 for none
+abbrev pub told : (t n : ℕ) → Break → Outcome
+told t n Fine = clean
+told t n (Broken rule partner needed found) = stop t n (Broken rule partner needed found)
+
+-- a rule as it is looked at at an edge: the record that stands there breaks it, or it is a deadline, which passes with or without one
+pub data Check : Type 0 where
+  ofRecord : (Record → Past → Break) → Check
+  deadline : (Past → ℕ → Break) → Check
+
+-- what the record at edge t of the recording p breaks of the rule f, with its number
+abbrev pub recordSays : (f : Record → Past → Break) → Past → ℕ → Outcome
+recordSays f [] t = clean
+recordSays f (r ∷ p) t = cond (eqb (edge (r ∷ p)) t) (told t (number (r ∷ p)) (f r p)) (recordSays f p t)
+
+-- what a rule says of edge t; "24 and 25: record none"
+abbrev pub checkSays : Check → Past → ℕ → Outcome
+checkSays (ofRecord f) p t = recordSays f p t
+checkSays (deadline f) p t = told t 0 (f p t)
+
+-- the first of the rules that is broken at edge t
+abbrev pub firstOf : List Check → Past → ℕ → Outcome
+firstOf [] p t = clean
+firstOf (c ∷ cs) p t = keep (checkSays c p t) (firstOf cs p t)
+
+-- rules that a record breaks, before others
+abbrev pub ofRecords : List (Record → Past → Break) → List Check → List Check
+ofRecords [] cs = cs
+ofRecords (f ∷ fs) cs = ofRecord f ∷ ofRecords fs cs
+
+-- all rules by number, the deadlines in their place
+abbrev pub edgeChecks : Chip → List Check
+edgeChecks C = ofRecords (checks C) (deadline (rule24 C) ∷ deadline (rule25 C) ∷ [])
+
+-- the lowest rule broken at edge t
+unfoldable pub brokenAt : Chip → Past → ℕ → Outcome
+brokenAt C p t = firstOf (edgeChecks C) p t
+
+-- ── The verdict ─────────────────────────────────────────────────────────────────────────────
 
 -- the first broken edge from 1 to t of the recording p
 unfoldable pub verdictTo : Chip → Past → ℕ → Outcome
@@ -86,6 +109,21 @@ registerAt C p t n = mr n (upTo (rest (verdictTo C p t) t) p)
 
 abbrev pub owedIn : Chip → Past → ℕ → ℕ
 owedIn C p t = let u = rest (verdictTo C p t) t in owedAt (C .trefi) (upTo u p) u
+
+abbrev pub registerOf : Register → Answered
+registerOf g = record { written = g .written; code = g .code }
+
+-- what stands at the end edge t of the recording p: "the verdict, bank states, registers and debt"
+unfoldable pub answer : Chip → Past → (end : ℕ) → End
+answer C p t =
+    record {
+      verdict = shownVerdict C p t;
+      banks = table (λ b. shownOf (bankAt C p t b));
+      registers =
+          registerOf (registerAt C p t 0) ∷ registerOf (registerAt C p t 1) ∷ registerOf (registerAt C p t 2)
+          ∷ registerOf (registerAt C p t 3) ∷ [];
+      owed = owedIn C p t;
+    }
 
 -- ── No step is 0 ────────────────────────────────────────────────────────────────────────────
 

@@ -1,9 +1,9 @@
 // What is printed of a case.
 use crate::Run;
+use answers::End;
+use answers::Register;
 use answers::Shown;
 use answers::Verdict;
-use judge::Closed;
-use judge::Register;
 use libc::STDOUT_FILENO;
 use lines::ROOM;
 
@@ -24,13 +24,14 @@ pub(crate) fn close(run: Run, whole: bool, end: u64) {
         return;
     }
     let state = run.state;
-    let c = state.close(if end == LAST { state.edge } else { end });
+    let c = state.close(if end == LAST { state.rank.edge } else { end });
     if c.refused != 0 {
         refusal(c.refused);
     } else if whole {
-        closing(c);
+        let e = c.end;
+        closing(e);
     } else {
-        line(c.verdict);
+        line(c.end.verdict);
     }
 }
 
@@ -46,7 +47,7 @@ fn line(v: Verdict) {
     put(&text[..k]);
 }
 
-fn closing(c: Closed) {
+fn closing(c: End) {
     words(c.verdict);
     put(b"\t");
     bytes(answers::verdict_bytes(c.verdict));

@@ -13,9 +13,8 @@ use borrow.Author.Tests.{eqb-true, eq-eqb, ne-eqb}
 use Rattle.records.specs.declared.Record.{Record}
 use Rattle.records.specs.Command.{a10}
 use Rattle.records.specs.Record.{records}
-use Rattle.rules.specs.Past.{Past, number, cke, command}
-use Rattle.rules.proofs.Cutting.{length-records, number-all}
-use Rattle.rules.proofs.Section.{recording, recording-append}
+use Rattle.rules.specs.Past.{Past, number, cke, command, recording}
+use Rattle.rules.proofs.Cutting.{length-records, number-all, recording-append}
 use Rattle.tally.specs.declared.Tally.{Tally}
 use Rattle.tally.specs.declared.Tallied.{Tallied}
 use Rattle.tally.specs.Kinds.{kindOf, kindAt}

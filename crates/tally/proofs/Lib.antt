@@ -3,5 +3,4 @@ pub mod Ranging
 pub mod Folds
 pub mod Seventeen
 pub mod Cuts
-pub mod Lots
 pub mod Answers

@@ -13,31 +13,35 @@ use Rattle.answers.specs.declared.Verdict.{Verdict}
 use Rattle.chip.specs.declared.Chip.{Chip}
 use Rattle.chip.specs.Chip.{chipOf}
 use Rattle.records.specs.declared.Record.{Record}
-use Rattle.records.specs.Record.{records}
-use Rattle.kept.specs.declared.Shared.{Shared}
+use Rattle.records.specs.Record.{records, hasZero}
+use Rattle.running.specs.declared.Shared.{Shared}
+use Rattle.running.specs.declared.Rank.{Rank}
 use Rattle.judge.specs.declared.State.{State}
 use Rattle.judge.specs.declared.Taken.{Taken}
 use Rattle.header.specs.declared.Parsed.{Parsed}
 use Rattle.header.specs.declared.Parsed.the-variants.{Taken as TakenHeader, Refused}
 use Rattle.header.specs.Bytes.{parsedOf}
-use Rattle.judge.specs.Calls.{freshState, openedBy, openOf, hasZero, refuse, take, sectionOf}
-use Rattle.judge.specs.Ranges.{limit, inRange}
-use Rattle.judge.specs.Step.{isClean, turnIn, movedOf, stoppedOf, stepOf, foldOf}
+use Rattle.running.specs.Ends.{freshRank}
+use Rattle.judge.specs.Calls.{holding, openedBy, openOf, refuse, take, sectionOf}
+use Rattle.running.specs.Ranges.{limit}
+use Rattle.judge.specs.Ranges.{inRange}
+use Rattle.running.specs.Said.{isClean}
+use Rattle.running.specs.Step.{turnIn, movedOf, stoppedOf, stepOf, foldOf}
 use Rattle.verdict.specs.Reading.{Full}
 
 module _ (C : Chip) where
-  by-cases : (s : State) (r : Record) (t : Shared) (v w : Verdict) (x y : Bool)
+  by-cases : (s : Rank) (r : Record) (t : Shared) (v w : Verdict) (x y : Bool)
       → cond x (cond y (movedOf C s r t) (stoppedOf s r v)) (stoppedOf s r w) .count ≡ s .count + 1
   unfolding movedOf stoppedOf
   by-cases s r t v w true true = refl
   by-cases s r t v w true false = refl
   by-cases s r t v w false y = refl
 
-  one-more : (s : State) (r : Record) → stepOf C s r .count ≡ s .count + 1
+  one-more : (s : Rank) (r : Record) → stepOf C s r .count ≡ s .count + 1
   unfolding stepOf
   one-more s r = by-cases s r _ _ _ (isClean (s .first)) (isClean (turnIn C s r .verdict))
 
-  all-more : (s : State) (rs : List Record) → foldOf C s rs .count ≡ s .count + length rs
+  all-more : (s : Rank) (rs : List Record) → foldOf C s rs .count ≡ s .count + length rs
   all-more s [] = sym (add-zero (s .count))
   all-more s (r ∷ rs) = omega (arith, all-more (stepOf C s r) rs, one-more s r)
 
@@ -53,16 +57,16 @@ sixes (_ ∷ _ ∷ _ ∷ _ ∷ _ ∷ _ ∷ bs) = let w = sixes bs in (omega (ari
 
 module _ (s : State) (bs : List ℕ) (full : length bs ≡ 6000) where
   abbrev folded : State
-  folded = foldOf (chipOf (s .header)) s (records bs)
+  folded = holding (s .header) (foldOf (chipOf (s .header)) (s .rank) (records bs))
 
-  counted : folded .count ≡ s .count + 1000
-  counted = omega (arith, all-more (chipOf (s .header)) s (records bs), sixes bs .0, sixes bs .1)
+  counted : folded .rank .count ≡ s .rank .count + 1000
+  counted = omega (arith, all-more (chipOf (s .header)) (s .rank) (records bs), sixes bs .0, sixes bs .1)
 
-  picked : (a b c d : Bool) → ltb limit (s .count + length bs / 6) ≡ c
+  picked : (a b c d : Bool) → ltb limit (s .rank .count + length bs / 6) ≡ c
       → (cond a (cond b (cond c (refuse 7 s) (cond d (refuse 6 s) (take folded))) (refuse 5 s)) (refuse 17 s)) .refused ≡ 0
       → Full s (cond a (cond b (cond c (refuse 7 s) (cond d (refuse 6 s) (take folded))) (refuse 5 s)) (refuse 17 s) .state)
   picked true true false false t z =
-      let room : s .count + length bs / 6 ≤ limit = ltb-false limit (s .count + length bs / 6) t in
+      let room : s .rank .count + length bs / 6 ≤ limit = ltb-false limit (s .rank .count + length bs / 6) t in
       record { more = counted; within = omega (arith, counted) }
   picked true true false true t z = absurd (omega arith)
   picked true true true d t z = absurd (omega arith)
@@ -71,7 +75,7 @@ module _ (s : State) (bs : List ℕ) (full : length bs ≡ 6000) where
 
   pub taken-full : sectionOf s bs .refused ≡ 0 → Full s (sectionOf s bs .state)
   unfolding sectionOf
-  taken-full z = picked (inRange s) (eqb (length bs % 6) 0) (ltb limit (s .count + length bs / 6)) (hasZero (records bs)) refl z
+  taken-full z = picked (inRange s) (eqb (length bs % 6) 0) (ltb limit (s .rank .count + length bs / 6)) (hasZero (records bs)) refl z
 
 -- a section was taken, and it was full
 pub read-full : (s : State) (bs : List ℕ) (t : Taken) (n : ℕ) → t ≡ sectionOf s bs → n ≡ length bs
@@ -83,11 +87,11 @@ read-full s bs t n is size h =
     rw is (taken-full s bs full taken)
 
 -- opening counts no record
-by-header : (p : Parsed) → openedBy p .state .count ≡ 0
-unfolding freshState
+by-header : (p : Parsed) → openedBy p .state .rank .count ≡ 0
+unfolding freshRank
 by-header (TakenHeader h) = refl
 by-header (Refused n) = refl
 
-pub none-yet : (bs : List ℕ) → openOf bs .state .count ≡ 0
+pub none-yet : (bs : List ℕ) → openOf bs .state .rank .count ≡ 0
 unfolding openOf
 none-yet bs = by-header (parsedOf bs)

@@ -11,8 +11,8 @@ use Rattle.lines.specs.Line.{verdictLine, refusalLine}
 
 -- closing is refused or has a verdict
 unfoldable pub closingLine : Closed → List ℕ
-closingLine c = cond (eqb (c .refused) 0) (verdictLine (c .verdict)) (refusalLine (c .refused))
+closingLine c = cond (eqb (c .refused) 0) (verdictLine (c .end .verdict)) (refusalLine (c .refused))
 
 -- "stops at the first refusal, and closes at the last record's edge"
 unfoldable pub answerLine : (refused : ℕ) → State → List ℕ
-answerLine refused s = cond (eqb refused 0) (closingLine (closeOf s (s .edge))) (refusalLine refused)
+answerLine refused s = cond (eqb refused 0) (closingLine (closeOf s (s .rank .edge))) (refusalLine refused)

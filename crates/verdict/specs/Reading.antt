@@ -3,9 +3,9 @@
 use Prim.Native.Nat.{_+_, _≤_}
 use mathlib.Core.Path.{_≡_}
 use Rattle.judge.specs.declared.State.{State}
-use Rattle.judge.specs.Ranges.{limit}
+use Rattle.running.specs.Ranges.{limit}
 
 -- a full section was taken: 1,000 records more, within the limit
 pub record Full (before after : State) : Type 0 where
-  pub more : after .count ≡ before .count + 1000
-  pub within : after .count ≤ limit
+  pub more : after .rank .count ≡ before .rank .count + 1000
+  pub within : after .rank .count ≤ limit

@@ -28,7 +28,7 @@ fn main() {
 }
 
 fn opened() -> Run
-    ensures { λ r. ⌜ r .state .count ≡ 0 ⌝ }
+    ensures { λ r. ⌜ r .state .rank .count ≡ 0 ⌝ }
 {
     let mut header = [0u8; 6];
     let n = io::read_full(STDIN_FILENO, &mut header);
@@ -43,7 +43,7 @@ fn opened() -> Run
 
 // Section after section, up to a refusal or the end of the input. Past the limit there was a refusal, so the loop ends.
 fn judged(start: Run) -> Run
-    requires { ⌜ start .state .count ≡ 0 ⌝ }
+    requires { ⌜ start .state .rank .count ≡ 0 ⌝ }
     ensures { λ r. ⌜ r .more ≡ false ⌝ }
 {
     let mut run = start;
@@ -87,9 +87,9 @@ fn line(run: Run, text: &mut [u8; ROOM]) -> usize
         return lines::refusal_line(run.refused, text);
     }
     let state = run.state;
-    let c = state.close(state.edge);
+    let c = state.close(state.rank.edge);
     if c.refused != 0 {
         return lines::refusal_line(c.refused, text);
     }
-    lines::verdict_line(c.verdict, text)
+    lines::verdict_line(c.end.verdict, text)
 }

@@ -11,7 +11,7 @@ use Rattle.verdict.proofs.judged.Statement.{statement}
 use Rattle.verdict.proofs.judged.Tie as tie
 
 abbrev Inv-loop : tie.InvT-loop
-Inv-loop run₀ read₀ run read = (read ≤ 1049576) × (run .more ≡ true → (run .state .count ≡ read) × (read ≤ 1048576))
+Inv-loop run₀ read₀ run read = (read ≤ 1049576) × (run .more ≡ true → (run .state .rank .count ≡ read) × (read ≤ 1048576))
 
 abbrev μ-loop : tie.MeasureT-loop
 μ-loop run₀ read₀ run read = 1049576 - read

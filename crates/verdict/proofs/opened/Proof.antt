@@ -23,7 +23,7 @@ open-requires : tie.Need-open-requires
 open-requires c κs = search needs
 
 returns : tie.Need-returns
-returns c = ap (λ (o : Opened). o .state .count) (c .before .before .«open» .ensures) ∙ none-yet _
+returns c = ap (λ (o : Opened). o .state .rank .count) (c .before .before .«open» .ensures) ∙ none-yet _
 
 pub opened-spec : {M : Type 1} → statement M
 opened-spec =

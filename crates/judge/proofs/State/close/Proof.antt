@@ -1,12 +1,11 @@
 -- Checks 17 and 8; then the end.
 -- Assumes nothing.
-use borrow.Author.Tests.{not-true, not-false, ltb-false}
-use lib.Dec.{ltb}
-use native.Mathlib.Omega.{arith}
-use mathlib.Core.Path.{sym, _∙_}
-use Rattle.judge.proofs.Ranging.{tested, small}
-use Rattle.kept.proofs.Both.{neither}
-use Rattle.judge.specs.Calls.{closeOf}
+use borrow.Author.Tests.{not-true, not-false}
+use mathlib.Core.Path.{sym, ap, _∙_}
+use Rattle.chip.specs.declared.Chip.{Chip}
+use Rattle.running.specs.Ends.{endedOf}
+use Rattle.judge.specs.Calls.{closed, closeOf}
+use Rattle.judge.proofs.Ranging.{ends}
 use borrow.Author.Needs.{needs}
 use Rattle.judge.proofs.State.close.Statement.{statement}
 use Rattle.judge.proofs.State.close.Tie as tie
@@ -31,21 +30,16 @@ returns-2 c = c .not-closed2 .ensures ∙ rw (sym (c .before .before .before .be
 chip-of-requires : tie.Need-chip-of-requires
 chip-of-requires c κs = search needs
 
-closed-requires : tie.Need-closed-requires
-closed-requires c κs = let t = tested _ (sym (c .before .before .before .before .in-range .ensures) ∙ not-false _ (c .before .before .before .if1 .left)) in
-    let e = neither (ltb (c .before .before .before .before .before .args .end) (c .before .before .before .before .before .args .self .edge)) (ltb 17592186044416 (c .before .before .before .before .before .args .end)) (c .before .if2 .left) in
-    record {
-      small = rw (c .chip-of .ensures) (small _ (t .some));
-      edge = omega arith;
-      phase = t .range .phase;
-      owed = t .range .owed;
-      broke = t .range .broke;
-      until = ltb-false _ _ (e .1);
-    }
+end-requires : tie.Need-end-requires
+end-requires c κs = search needs
 
 returns-3 : tie.Need-returns-3
 unfolding closeOf
-returns-3 c = c .closed .ensures ∙ rw (c .before .chip-of .ensures, sym (c .before .before .before .before .before .in-range .ensures) ∙ not-false _ (c .before .before .before .before .if1 .left), c .before .before .if2 .left)
+returns-3 c =
+    let s = c .before .before .before .before .before .before .args .self in
+    let t = c .before .before .before .before .before .before .args .end in
+    ap closed (c .end .ensures ∙ ap (λ (C : Chip). endedOf C (s .rank) t) (c .before .chip-of .ensures) ∙ ends s (sym (c .before .before .before .before .before .in-range .ensures) ∙ not-false _ (c .before .before .before .before .if1 .left)) t (c .before .before .if2 .left))
+    ∙ rw (sym (c .before .before .before .before .before .in-range .ensures) ∙ not-false _ (c .before .before .before .before .if1 .left), c .before .before .if2 .left)
 
 pub close-spec : {M : Type 1} → statement M
 close-spec =
@@ -57,5 +51,5 @@ close-spec =
     not-closed-requires-2
     returns-2
     chip-of-requires
-    closed-requires
+    end-requires
     returns-3)

@@ -1,14 +1,12 @@
 -- Checks 17, 5, 7, 6; then the records.
 -- Assumes nothing.
-use Rattle.judge.specs.Calls.{take}
-use Rattle.judge.specs.Step.{foldOf}
-use Rattle.chip.specs.declared.Chip.{Chip}
-use Rattle.records.specs.Record.{records}
 use borrow.Author.Tests.{lt-ltb, le-ltb, eq-eqb, ne-eqb, not-true, not-false}
-use native.Mathlib.Omega.{arith}
 use mathlib.Core.Path.{sym, ap, _∙_}
-use Rattle.judge.proofs.Ranging.{tested, small}
-use Rattle.judge.specs.Calls.{sectionOf}
+use Rattle.chip.specs.declared.Chip.{Chip}
+use Rattle.running.specs.declared.Rank.{Rank}
+use Rattle.running.specs.Ends.{takenOf}
+use Rattle.judge.specs.Calls.{holding, take, sectionOf}
+use Rattle.judge.proofs.Ranging.{takes}
 use borrow.Author.Needs.{needs}
 use Rattle.judge.proofs.State.section.Statement.{statement}
 use Rattle.judge.proofs.State.section.Tie as tie
@@ -31,10 +29,10 @@ unfolding sectionOf
 returns-2 c = c .refuse2 .ensures ∙ rw (sym (c .before .before .before .in-range .ensures) ∙ not-false _ (c .before .before .if1 .left), ne-eqb _ _ (c .before .if2 .taken))
 
 cast-if3 : tie.Need-cast-if3
-cast-if3 c = let t = tested _ (sym (c .before .before .before .in-range .ensures) ∙ not-false _ (c .before .before .if1 .left)) in omega (arith, t .count)
+cast-if3 c = search needs
 
 add-if3 : tie.Need-add-if3
-add-if3 c = let t = tested _ (sym (c .before .before .before .in-range .ensures) ∙ not-false _ (c .before .before .if1 .left)) in omega (arith, t .count)
+add-if3 c = search needs
 
 refuse-requires-3 : tie.Need-refuse-requires-3
 refuse-requires-3 c κs = search needs
@@ -56,18 +54,25 @@ returns-4 c = c .refuse4 .ensures ∙ rw (sym (c .before .before .before .before
 chip-of-requires : tie.Need-chip-of-requires
 chip-of-requires c κs = search needs
 
-fold-requires : tie.Need-fold-requires
-fold-requires c κs = let t = tested _ (sym (c .before .before .before .before .before .before .before .in-range .ensures) ∙ not-false _ (c .before .before .before .before .before .before .if1 .left)) in
-    record { small = rw (c .chip-of .ensures) (small _ (t .some)); range = t .range; sixes = c .before .before .before .before .before .if2 .left; room = c .before .before .before .if3 .left }
+take-requires : tie.Need-take-requires
+take-requires c κs = search needs
+
+holding-requires : tie.Need-holding-requires
+holding-requires c κs = search needs
 
 so-far-requires : tie.Need-so-far-requires
 so-far-requires c κs = search needs
 
 returns-5 : tie.Need-returns-5
 unfolding sectionOf
-returns-5 c = (λ i. record { refused = 0; state = c .before .fold .result; verdict = c .so-far .ensures i })
-    ∙ ap take (c .before .fold .ensures ∙ ap (λ (C : Chip). foldOf C (c .before .before .before .before .before .before .before .before .before .before .before .args .self) (records (c .before .before .before .before .before .before .before .before .before .before .before .args .bytes .now))) (c .before .before .chip-of .ensures))
-    ∙ rw (sym (c .before .before .before .before .before .before .before .before .before .in-range .ensures) ∙ not-false _ (c .before .before .before .before .before .before .before .before .if1 .left), eq-eqb _ _ (c .before .before .before .before .before .before .before .if2 .left), le-ltb _ _ (c .before .before .before .before .before .if3 .left), sym (c .before .before .before .before .has-zero .ensures) ∙ c .before .before .before .if4 .left)
+returns-5 c =
+    let s = c .before .before .before .before .before .before .before .before .before .before .before .before .args .self in
+    let bs = c .before .before .before .before .before .before .before .before .before .before .before .before .args .bytes .now in
+    (λ i. record { refused = 0; state = c .before .holding .ensures i; verdict = c .so-far .ensures i })
+    ∙ ap (λ (n : Rank). take (holding (s .header) n))
+    (c .before .before .take .ensures ∙ ap (λ (C : Chip). takenOf C (s .rank) bs) (c .before .before .before .chip-of .ensures)
+    ∙ takes s (sym (c .before .before .before .before .before .before .before .before .before .before .in-range .ensures) ∙ not-false _ (c .before .before .before .before .before .before .before .before .before .if1 .left)) bs (c .before .before .before .before .before .before .before .before .if2 .left) (c .before .before .before .before .before .before .if3 .left))
+    ∙ rw (sym (c .before .before .before .before .before .before .before .before .before .before .in-range .ensures) ∙ not-false _ (c .before .before .before .before .before .before .before .before .before .if1 .left), eq-eqb _ _ (c .before .before .before .before .before .before .before .before .if2 .left), le-ltb _ _ (c .before .before .before .before .before .before .if3 .left), sym (c .before .before .before .before .before .has-zero .ensures) ∙ c .before .before .before .before .if4 .left)
 
 pub section-spec : {M : Type 1} → statement M
 section-spec =
@@ -86,6 +91,7 @@ section-spec =
     refuse-requires-4
     returns-4
     chip-of-requires
-    fold-requires
+    take-requires
+    holding-requires
     so-far-requires
     returns-5)

@@ -5,9 +5,9 @@ use native.Mathlib.Omega.{arith}
 use Prim.Native.Nat.{_≤_, _-_, _%_}
 use mathlib.Core.Path.{_≡_, sym, ap, _∙_}
 use lib.ListN.{drop, length}
-use Rattle.records.specs.Record.{records}
-use Rattle.judge.specs.Calls.{hasZero}
-use Rattle.judge.proofs.Sections.{zero-hit, zero-pass, at-end}
+use Rattle.records.specs.Record.{records, hasZero}
+use Rattle.running.proofs.Sections.{at-end}
+use Rattle.judge.proofs.Zeros.{zero-hit, zero-pass}
 use Rattle.judge.proofs.calls.has_zero.Statement.{statement}
 use Rattle.judge.proofs.calls.has_zero.Tie as tie
 

@@ -1,16 +1,14 @@
--- Every other field is zero.
+-- The number alone.
 -- Assumes nothing.
-use Rattle.judge.specs.Calls.{notClosed}
 use borrow.Author.Needs.{needs}
 use Rattle.judge.proofs.calls.not_closed.Statement.{statement}
 use Rattle.judge.proofs.calls.not_closed.Tie as tie
 
-none-requires : tie.Need-none-requires
-none-requires c κs = search needs
+no-end-requires : tie.Need-no-end-requires
+no-end-requires c κs = search needs
 
 returns : tie.Need-returns
-unfolding notClosed
-returns c = simp (c .none .ensures)
+returns c = simp (c .no-end .ensures)
 
 pub not-closed-spec : {M : Type 1} → statement M
-not-closed-spec = tie.close (tie.spec none-requires returns)
+not-closed-spec = tie.close (tie.spec no-end-requires returns)

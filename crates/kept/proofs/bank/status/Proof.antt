@@ -2,7 +2,7 @@
 -- Assumes nothing.
 use borrow.Author.Needs.{needs}
 use borrow.Author.Tests.{lt-ltb, le-ltb, le-leb, lt-leb}
-use Rattle.kept.specs.Breaks.{statusOf}
+use Rattle.running.specs.Breaks.{statusOf}
 use Rattle.kept.proofs.bank.status.Statement.{statement}
 use Rattle.kept.proofs.bank.status.Tie as tie
 

@@ -1,7 +1,7 @@
 -- By the bank's case.
 -- Assumes nothing.
 use mathlib.Core.Path.{sym, ap, _∙_}
-use Rattle.kept.specs.Breaks.{barredBy}
+use Rattle.running.specs.Breaks.{barredBy}
 use borrow.Author.Needs.{needs}
 use Rattle.kept.proofs.breaks.barred_by.Statement.{statement}
 use Rattle.kept.proofs.breaks.barred_by.Tie as tie

@@ -1,6 +1,6 @@
 -- The lowest bank first.
 -- Assumes nothing.
-use Rattle.kept.specs.Breaks.{lowest, orElse}
+use Rattle.answers.specs.Answer.{lowest, orElse}
 use borrow.Author.Needs.{needs}
 use Rattle.kept.proofs.breaks.first_barred.Statement.{statement}
 use Rattle.kept.proofs.breaks.first_barred.Tie as tie

@@ -2,7 +2,7 @@
 -- Assumes nothing.
 use mathlib.Core.Path.{sym, ap}
 use Rattle.answers.specs.declared.Break.{Break}
-use Rattle.kept.specs.Breaks.{orElse}
+use Rattle.answers.specs.Answer.{orElse}
 use borrow.Author.Needs.{needs}
 use Rattle.kept.proofs.breaks.or_else.Statement.{statement}
 use Rattle.kept.proofs.breaks.or_else.Tie as tie

@@ -1,7 +1,7 @@
 -- By the command.
 -- Assumes nothing.
 use borrow.Author.Tests.{eq-eqb, ne-eqb}
-use Rattle.kept.specs.Breaks.{rule3}
+use Rattle.running.specs.Breaks.{rule3}
 use borrow.Author.Needs.{needs}
 use Rattle.kept.proofs.breaks.rule3.Statement.{statement}
 use Rattle.kept.proofs.breaks.rule3.Tie as tie

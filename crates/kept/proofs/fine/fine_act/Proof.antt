@@ -1,14 +1,9 @@
--- No rule is in the way of an ACT: each test that fails says so, and the last one decides.
+-- No rule is in the way of an ACT.
 -- Assumes nothing.
-use Rattle.kept.specs.Fine.{fineAct}
-use borrow.Author.Tests.{eq-eqb, ne-eqb}
+use Rattle.running.specs.Fine.{fineAct}
 use borrow.Author.Needs.{needs}
 use Rattle.kept.proofs.fine.fine_act.Statement.{statement}
 use Rattle.kept.proofs.fine.fine_act.Tie as tie
-
-returns : tie.Need-returns
-unfolding fineAct
-returns c = simp (ne-eqb _ _ (c .if1 .taken))
 
 element-copy-out-a0 : tie.Need-element-copy-out-a0
 element-copy-out-a0 c = search needs
@@ -28,19 +23,18 @@ met-by-requires-2 c κs = search needs
 met-by-requires-3 : tie.Need-met-by-requires-3
 met-by-requires-3 c κs = search needs
 
-returns-2 : tie.Need-returns-2
+returns : tie.Need-returns
 unfolding fineAct
-returns-2 c = simp (c .met-by3 .ensures, c .before .met-by2 .ensures, c .before .before .met-by .ensures, c .before .before .before .met .ensures, eq-eqb _ _ (c .before .before .before .before .before .before .before .before .before .before .before .before .if1 .left))
+returns c = simp (c .met-by3 .ensures, c .before .met-by2 .ensures, c .before .before .met-by .ensures, c .before .before .before .met .ensures)
 
 pub fine-act-spec : {M : Type 1} → statement M
 fine-act-spec =
     tie.close
     (tie.spec
-    returns
     element-copy-out-a0
     element-copy-out-a3
     met-requires
     met-by-requires
     met-by-requires-2
     met-by-requires-3
-    returns-2)
+    returns)

@@ -1,6 +1,6 @@
 -- No rule is in the way of a PRE of one bank.
 -- Assumes nothing.
-use Rattle.kept.specs.Fine.{finePre}
+use Rattle.running.specs.Fine.{finePre}
 use borrow.Author.Tests.{eq-eqb, ne-eqb}
 use borrow.Author.Needs.{needs}
 use Rattle.kept.proofs.fine.fine_pre.Statement.{statement}

@@ -1,6 +1,6 @@
 -- No rule is in the way of a RD.
 -- Assumes nothing.
-use Rattle.kept.specs.Fine.{fineRd}
+use Rattle.running.specs.Fine.{fineRd}
 use borrow.Author.Tests.{eq-eqb, ne-eqb}
 use borrow.Author.Needs.{needs}
 use Rattle.kept.proofs.fine.fine_rd.Statement.{statement}

@@ -1,6 +1,6 @@
 -- No rule is in the way of a WR.
 -- Assumes nothing.
-use Rattle.kept.specs.Fine.{fineWr}
+use Rattle.running.specs.Fine.{fineWr}
 use borrow.Author.Tests.{eq-eqb, ne-eqb}
 use borrow.Author.Needs.{needs}
 use Rattle.kept.proofs.fine.fine_wr.Statement.{statement}

@@ -1,7 +1,7 @@
 -- A mark of no record needs nothing.
 -- Assumes nothing.
 use borrow.Author.Tests.{eq-eqb, ne-eqb}
-use Rattle.kept.specs.Marks.{needing}
+use Rattle.running.specs.Marks.{needing}
 use Rattle.kept.proofs.spaced.needing.Statement.{statement}
 use Rattle.kept.proofs.spaced.needing.Tie as tie
 

@@ -1,7 +1,7 @@
 -- Broken where too few clocks have passed.
 -- Assumes nothing.
 use borrow.Author.Tests.{lt-ltb, le-ltb}
-use Rattle.kept.specs.Marks.{spaced}
+use Rattle.running.specs.Marks.{spaced}
 use borrow.Author.Needs.{needs}
 use Rattle.kept.proofs.spaced.spaced.Statement.{statement}
 use Rattle.kept.proofs.spaced.spaced.Tie as tie

@@ -1,7 +1,7 @@
 -- The rules that speak of the command.
 -- Assumes nothing.
 use borrow.Author.Tests.{eq-eqb, ne-eqb}
-use Rattle.kept.specs.Breaks.{spacings, waits}
+use Rattle.running.specs.Breaks.{spacings, waits}
 use borrow.Author.Needs.{needs}
 use Rattle.kept.proofs.spacing.of_pre.Statement.{statement}
 use Rattle.kept.proofs.spacing.of_pre.Tie as tie

@@ -2,7 +2,7 @@
 -- Assumes nothing.
 use mathlib.Core.Path.{sym, ap, _∙_}
 use Rattle.records.specs.declared.Command.{Command}
-use Rattle.kept.specs.Breaks.{spacings}
+use Rattle.running.specs.Breaks.{spacings}
 use borrow.Author.Needs.{needs}
 use Rattle.kept.proofs.spacing.spacings.Statement.{statement}
 use Rattle.kept.proofs.spacing.spacings.Tie as tie

@@ -1,6 +1,6 @@
 -- Four rules, the lowest first.
 -- Assumes nothing.
-use Rattle.kept.specs.Breaks.{waits}
+use Rattle.running.specs.Breaks.{waits}
 use borrow.Author.Needs.{needs}
 use Rattle.kept.proofs.spacing.waits.Statement.{statement}
 use Rattle.kept.proofs.spacing.waits.Tie as tie

@@ -1,0 +1,19 @@
+-- The header's ranges, then the rank's.
+-- Assumes nothing.
+use Rattle.judge.specs.Ranges.{inRange}
+use borrow.Author.Needs.{needs}
+use Rattle.judge.proofs.calls.in_range.Statement.{statement}
+use Rattle.judge.proofs.calls.in_range.Tie as tie
+
+trefi-requires : tie.Need-trefi-requires
+trefi-requires c κs = search needs
+
+in-range-requires : tie.Need-in-range-requires
+in-range-requires c κs = search needs
+
+returns : tie.Need-returns
+unfolding inRange
+returns c = simp (c .in-range .ensures, c .before .before .trefi .ensures)
+
+pub in-range-spec : {M : Type 1} → statement M
+in-range-spec = tie.close (tie.spec trefi-requires in-range-requires returns)

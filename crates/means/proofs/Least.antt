@@ -1,0 +1,61 @@
+-- Every check of a record says only its own rule, and names the pair that 01 names for it.
+-- Assumes nothing.
+use Prim.Native.Nat.{ℕ}
+use mathlib.Core.Path.{_≡_}
+use mathlib.Core.Bool.{true}
+use mathlib.Core.List.{_∷_}
+use Rattle.answers.specs.declared.Break.{Break}
+use Rattle.answers.specs.declared.Break.the-variants.{Broken}
+use Rattle.records.specs.declared.Record.{Record}
+use Rattle.records.specs.declared.Command.the-variants.{Bad}
+use Rattle.chip.specs.declared.Chip.{Chip}
+use Rattle.rules.specs.Past.{Past, is}
+use Rattle.rules.specs.Rules.{Row, rule1, rule2, rule3, rule5, rule8, rule23, spacing, spaced, checks}
+use Rattle.rules.proofs.Clean.{Among}
+use Rattle.means.proofs.Partners.{Row-pair, row-pair}
+use Rattle.means.proofs.Pairs.{None, Way-pair, Lacks, Start-pair, Fourth-pair, Woken-pair, pair1, pair2, pair3, pair5, pair8, pair23}
+
+module _ (C : Chip) where
+  -- what the record r after the past p broke, with whom, in 01's words
+  pub data Pair (r : Record) (p : Past) (partner needed found : ℕ) : (rule : ℕ) → Type 0 where
+    other-change : is Bad (r ∷ p) ≡ true → partner ≡ 0 → None needed found → Pair r p partner needed found 1
+    in-the-way : Way-pair C r p partner needed found → Pair r p partner needed found 2
+    lacking : Lacks C r p → partner ≡ 0 → None needed found → Pair r p partner needed found 3
+    too-soon : (x : Row) → Row-pair (spacing C x) r p partner needed found → Pair r p partner needed found (spacing C x .name)
+    precharging : Start-pair C r p partner needed found → Pair r p partner needed found 5
+    five-acts : Fourth-pair C r p partner needed found → Pair r p partner needed found 8
+    no-refresh : Woken-pair C r p partner needed found → Pair r p partner needed found 23
+
+  -- the check g speaks of rule k alone
+  abbrev pub Says : ℕ → (Record → Past → Break) → Type 0
+  Says k g = (r : Record) (p : Past) (j n m f : ℕ) → g r p ≡ Broken j n m f → (j ≡ k) × Pair r p n m f k
+
+  pub says1 : Says 1 (rule1 C)
+  says1 r p j n m f h = let w = pair1 C r p j n m f h in (w .0, other-change (w .1) (w .2) (w .3))
+
+  pub says2 : Says 2 (rule2 C)
+  says2 r p j n m f h = let w = pair2 C r p j n m f h in (w .0, in-the-way (w .1))
+
+  pub says3 : Says 3 (rule3 C)
+  says3 r p j n m f h = let w = pair3 C r p j n m f h in (w .0, lacking (w .1) (w .2) (w .3))
+
+  pub says5 : Says 5 (rule5 C)
+  says5 r p j n m f h = let w = pair5 C r p j n m f h in (w .0, precharging (w .1))
+
+  pub says8 : Says 8 (rule8 C)
+  says8 r p j n m f h = let w = pair8 C r p j n m f h in (w .0, five-acts (w .1))
+
+  pub says23 : Says 23 (rule23 C)
+  says23 r p j n m f h = let w = pair23 C r p j n m f h in (w .0, no-refresh (w .1))
+
+  pub says-row : (x : Row) → Says (spacing C x .name) (spaced C x)
+  says-row x r p j n m f h = let w = row-pair (spacing C x) r p j n m f h in (w .0, too-soon x (w .1))
+
+  -- rule k is broken by the record r after the past p: one of the checks says so
+  pub record BreaksRecord (r : Record) (p : Past) (k : ℕ) : Type 0 where
+    pub check : Record → Past → Break
+    pub of : Among check (checks C)
+    pub partner : ℕ
+    pub needed : ℕ
+    pub found : ℕ
+    pub says : check r p ≡ Broken k partner needed found

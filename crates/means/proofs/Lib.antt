@@ -1,0 +1,9 @@
+pub mod Partners
+pub mod Pairs
+pub mod Least
+pub mod Breaks
+pub mod Passing
+pub mod Order
+pub mod Means
+pub mod Fourth
+pub mod Fifth

@@ -1,0 +1,1 @@
+// What the rules' words mean: theory only, in proofs/.

@@ -1,0 +1,11 @@
+pub mod Both
+pub mod Finding
+pub mod Sections
+pub mod Ranging
+pub mod Folds
+pub mod Asking
+pub mod Easing
+pub mod Running
+pub mod Turning
+pub mod Closing
+pub mod Ends

@@ -1,0 +1,1 @@
+// However a recording is cut, the judge answers by the rules: theory only, in proofs/.
