@@ -1,0 +1,161 @@
+"""./judge: judges recordings with the proved programs and tells clean from broken by its status. `judge --help` tells how."""
+
+import os
+import subprocess
+import sys
+
+from files import Unreadable, parts, refuse_at_once, shown
+from options import HELP, USAGE, Wrong, asked
+from programs import ROOT, Failed, answer, built
+
+CLEAN, BROKEN, NONE, LOST = 0, 1, 2, 3
+STATUS = {b'clean': CLEAN, b'broken': BROKEN, b'refused': NONE}
+HEADER = RECORD = 6
+
+
+def complain(words):
+    print(f'judge: {words}', file=sys.stderr, flush=True)
+
+
+def status(line):
+    """By the first word of a verdict's line."""
+    word = line.split(b' ')[0].strip()
+    if word not in STATUS:
+        raise Failed('the program gave no verdict')
+    return STATUS[word]
+
+
+def is_header(first):
+    """Six bytes that opening takes: by themselves they are a recording of no records."""
+    return len(first) == HEADER and answer('verdict', [first]) == b'clean 0 0\n'
+
+
+def joined(names):
+    """The files one after the other, each of whole records behind the header. It ends with one that is not, and the program then says so."""
+    for i, name in enumerate(names):
+        size, first = 0, b''
+        for part in parts(name):
+            if i and size < HEADER:
+                first += part[:HEADER - size]
+                if is_header(first):
+                    begins_a_recording(name)
+            size += len(part)
+            yield part
+        if size == 0:
+            raise Unreadable(f'{shown(name)}: it is empty')
+        if size % RECORD or i == 0 and size < HEADER:
+            if len(names) > 1:
+                complain(f'{shown(name)} does not end between records')
+            return
+
+
+def begins_a_recording(name):
+    complain(f'{shown(name)} begins with a header of its own and is judged as more of the same recording; --each judges each file by itself')
+
+
+def judge(names):
+    for name in names:
+        refuse_at_once(name, twice=False)
+    built('verdict')
+    line = answer('verdict', joined(names))
+    return line, status(line)
+
+
+def each(names):
+    """One line a file, and the worst status."""
+    built('verdict')
+    worst = CLEAN
+    for name in names:
+        try:
+            refuse_at_once(name, twice=False)
+            line = answer('verdict', joined([name]))
+            worst = max(worst, status(line))
+        except Unreadable as error:
+            complain(error)
+            line, worst = b'none\n', max(worst, NONE)
+        write(shown(name).encode('utf-8', 'surrogateescape') + b': ' + line)
+    return b'', worst
+
+
+def lot(names, values):
+    for name in names:
+        refuse_at_once(name, twice=True)
+    built('verdict')
+    built('lot')
+    for name in names[1:]:
+        if is_header(next(parts(name), b'')[:HEADER]):
+            begins_a_recording(name)
+    given = [b'./' + name if name.startswith(b'-') else name for name in names]
+    report = answer('lot', [], *([b'--values'] if values else []), *given)
+    return report, reported(report)
+
+
+def reported(report):
+    """By the report's verdict: its own line, in either form."""
+    for line in report.split(b'\n'):
+        if line.startswith((b'outcome clean', b'Verdict: clean')):
+            return CLEAN
+        if line.startswith((b'outcome broken', b'Verdict: broken')):
+            return BROKEN
+    return NONE
+
+
+def version():
+    git = subprocess.run(['git', '-C', ROOT, 'rev-parse', 'HEAD'], capture_output=True, text=True, check=False) if (ROOT / '.git').exists() else None
+    commit = git.stdout.strip() if git and git.returncode == 0 else 'unknown'
+    try:
+        kit = subprocess.run(['rt', 'version'], capture_output=True, text=True, check=False).stdout.strip()
+    except OSError:
+        kit = 'rt is not to be found'
+    return f'manilaply {commit}\n{kit}\n'.encode(), CLEAN
+
+
+def write(text):
+    sys.stdout.buffer.write(text)
+    sys.stdout.buffer.flush()
+
+
+def run(words):
+    wanted = asked(words)
+    if wanted.mode == 'help':
+        return HELP.encode(), CLEAN
+    if wanted.mode == 'version':
+        return version()
+    if wanted.mode == 'each':
+        return each(wanted.files)
+    if wanted.mode == 'lot':
+        return lot(wanted.files, wanted.values)
+    return judge(wanted.files)
+
+
+def main():
+    if sys.stdout is None:
+        complain('standard output is closed; the answer is lost')
+        return LOST
+    try:
+        text, result = run([os.fsencode(word) for word in sys.argv[1:]])
+        write(text)
+        return result
+    except Wrong as error:
+        complain(error)
+        print(USAGE, file=sys.stderr)
+        return NONE
+    except Unreadable as error:
+        complain(error)
+        return NONE
+    except Failed as error:
+        complain(error)
+        return LOST
+    except KeyboardInterrupt:
+        return LOST
+    except OSError as error:
+        complain(f'the answer could not be written: {error.strerror}')
+        return LOST
+
+
+result = main()
+try:
+    sys.stdout and sys.stdout.flush()
+except OSError:
+    result = LOST
+os._exit(result)

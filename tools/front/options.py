@@ -1,0 +1,66 @@
+"""The words of the command line: a mode, options and files. Options may stand anywhere before `--`."""
+
+MODES = {'--lot': 'lot', '--each': 'each', '--help': 'help', '-h': 'help', '--version': 'version'}
+
+USAGE = 'usage: judge [--each | --lot [--values]] [--] FILE..    (judge --help tells more)'
+
+HELP = '''judge FILE..                    judges one DDR3 command recording, given as one or several files in order
+judge --each FILE..             judges each file as a recording of its own: one line a file, FILE: and its verdict
+judge --lot [--values] FILE..   reports on one recording in full: how many records of each command, the two records that prove a
+                                break, with their files, banks, registers and refresh debt; --values: one value a line, for a program
+judge --version                 prints the commit of these sources and the kit that proves them
+judge --help                    prints this
+
+Options may stand anywhere before `--`; what comes after it is a file. The file - is standard input.
+The last line on standard output is the verdict:
+    clean RECORDS EDGE
+    broken RULE RECORD PARTNER EDGE NEEDED FOUND
+    refused NUMBER
+README.md tells what the numbers mean. The status is the worst of the verdicts':
+    0  clean
+    1  broken
+    2  refused, or there is no verdict: a wrong option, a file that cannot be read
+    3  the answer could not be written, or the program could not be built or run
+The first use, and one after a change of the sources, proves and builds the program, which takes some minutes.
+'''
+
+
+class Wrong(Exception):
+    """A command line that says nothing that can be done."""
+
+
+class Asked:
+    """What the command line asks for. Files are bytes, since a name may be no text."""
+
+    def __init__(self):
+        self.mode, self.values, self.files = 'judge', False, []
+
+    def option(self, word):
+        if word == '--values':
+            self.values = True
+        elif word in MODES:
+            if self.mode not in ('judge', MODES[word]):
+                raise Wrong(f'{word} does not go with --{self.mode}')
+            self.mode = MODES[word]
+        else:
+            raise Wrong(f'there is no option {word}')
+
+    def whole(self):
+        if self.values and self.mode != 'lot':
+            raise Wrong('--values goes with --lot')
+        if self.mode in ('judge', 'each', 'lot') and not self.files:
+            raise Wrong('there is no file to judge')
+        return self
+
+
+def asked(words):
+    """What these words, given as bytes, ask for."""
+    found, options = Asked(), True
+    for word in words:
+        if options and word == b'--':
+            options = False
+        elif options and word.startswith(b'-') and word != b'-':
+            found.option(word.decode(errors='backslashreplace'))
+        else:
+            found.files.append(word)
+    return found.whole()
