@@ -4,12 +4,15 @@ import os
 import subprocess
 import sys
 
+from brief import told
 from files import Unreadable, parts, refuse_at_once, shown
 from options import HELP, USAGE, Wrong, asked
 from programs import ROOT, Failed, answer, built
+from values import as_json, lines, said, with_names
 
 CLEAN, BROKEN, NONE, LOST = 0, 1, 2, 3
 STATUS = {b'clean': CLEAN, b'broken': BROKEN, b'refused': NONE}
+OUTCOME = {'clean': CLEAN, 'broken': BROKEN, 'none': NONE}
 HEADER = RECORD = 6
 
 
@@ -77,7 +80,7 @@ def each(names):
     return b'', worst
 
 
-def lot(names, values):
+def ready_to_report(names):
     for name in names:
         refuse_at_once(name, twice=True)
     built('verdict')
@@ -85,18 +88,35 @@ def lot(names, values):
     for name in names[1:]:
         if is_header(next(parts(name), b'')[:HEADER]):
             begins_a_recording(name)
+
+
+def lot(names):
+    ready_to_report(names)
     given = [b'./' + name if name.startswith(b'-') else name for name in names]
-    report = answer('lot', [], *([b'--values'] if values else []), *given)
+    report = answer('lot', [], *given)
     return report, reported(report)
 
 
+def laid_out(names, layout):
+    """The values in one of their layouts."""
+    ready_to_report(names)
+    found = with_names(said(names), names)
+    return layout(found, shown(names[-1])), OUTCOME[found['outcome']]
+
+
+LAYOUTS = {
+    'values': lambda found, last: lines(found),
+    'json': lambda found, last: as_json(found),
+    'brief': lambda found, last: (told(found, last) + '\n').encode('utf-8', 'surrogateescape'),
+}
+
+
 def reported(report):
-    """By the report's verdict: its own line, in either form."""
+    """By the report's own line on the verdict."""
     for line in report.split(b'\n'):
-        if line.startswith((b'outcome clean', b'Verdict: clean')):
-            return CLEAN
-        if line.startswith((b'outcome broken', b'Verdict: broken')):
-            return BROKEN
+        for word in b'clean', b'broken':
+            if line.startswith(b'Verdict: ' + word):
+                return STATUS[word]
     return NONE
 
 
@@ -123,8 +143,10 @@ def run(words):
         return version()
     if wanted.mode == 'each':
         return each(wanted.files)
-    if wanted.mode == 'lot':
-        return lot(wanted.files, wanted.values)
+    if wanted.mode == 'lot' and not wanted.values:
+        return lot(wanted.files)
+    if wanted.mode in ('lot', 'json', 'brief'):
+        return laid_out(wanted.files, LAYOUTS[wanted.mode if wanted.mode != 'lot' else 'values'])
     return judge(wanted.files)
 
 

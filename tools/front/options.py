@@ -1,13 +1,15 @@
 """The words of the command line: a mode, options and files. Options may stand anywhere before `--`."""
 
-MODES = {'--lot': 'lot', '--each': 'each', '--help': 'help', '-h': 'help', '--version': 'version'}
+MODES = {'--lot': 'lot', '--each': 'each', '--brief': 'brief', '--json': 'json', '--help': 'help', '-h': 'help', '--version': 'version'}
 
-USAGE = 'usage: judge [--each | --lot [--values]] [--] FILE..    (judge --help tells more)'
+USAGE = 'usage: judge [--each | --brief | --json | --lot [--values]] [--] FILE..    (judge --help tells more)'
 
 HELP = '''judge FILE..                    judges one DDR3 command recording, given as one or several files in order
 judge --each FILE..             judges each file as a recording of its own: one line a file, FILE: and its verdict
 judge --lot [--values] FILE..   reports on one recording in full: how many records of each command, the two records that prove a
                                 break, with their files, banks, registers and refresh debt; --values: one value a line, for a program
+judge --brief FILE..            the verdict in one line that begins with a file and an offset: FILE:0xOFFSET: rule 5 (tRP): ..
+judge --json FILE..             the values as one JSON object, numbers as numbers
 judge --version                 prints the commit of these sources and the kit that proves them
 judge --help                    prints this
 
@@ -48,7 +50,7 @@ class Asked:
     def whole(self):
         if self.values and self.mode != 'lot':
             raise Wrong('--values goes with --lot')
-        if self.mode in ('judge', 'each', 'lot') and not self.files:
+        if self.mode not in ('help', 'version') and not self.files:
             raise Wrong('there is no file to judge')
         return self
 

@@ -1,0 +1,75 @@
+"""The verdict in one line that begins with a file and an offset, as compilers write them."""
+
+NAMES = {
+    1: 'CKE change', 2: 'bank state', 3: 'registers', 4: 'tRCD', 5: 'tRP', 6: 'tRC', 7: 'tRRD', 8: 'tFAW', 9: 'tRAS', 10: 'AL + tRTP', 11: 'WL + h + tWR',
+    12: 'column to column', 13: 'RD to WR', 14: 'WR to RD', 15: 'tRFC', 16: 'tMRD', 17: 'tMOD', 18: 'ZQ time', 19: 'RL + b', 20: 'DLL', 21: 'tXS', 22: 'tCKE + 1',
+    23: 'REF between SRX and SRE', 24: 'greatest tRAS', 25: 'refresh debt',
+}
+
+# The commands that speak of one bank.
+BANKED = {'ACT', 'RD', 'RDA', 'WR', 'WRA', 'PRE'}
+
+LACKS = {'MRS': 'this code is not allowed in this register', 'ACT': 'not all four registers are written', 'RD': 'no DLL reset was seen', 'RDA': 'no DLL reset was seen'}
+
+
+def place(said, what):
+    return f'{said[what + "_file"]}:0x{int(said[what + "_byte"]):x}'
+
+
+def command(said, what):
+    name = said[what + '_command']
+    if name in BANKED:
+        return f'{name} bank {said[what + "_bank"]}'
+    if name == 'MRS':
+        return f'MRS of MR{said[what + "_bank"]}'
+    return name
+
+
+def told(said, last):
+    """The line for these values; `last` is the file where the recording ends."""
+    if said['outcome'] == 'clean':
+        return f'{last}: clean, {said["count_all"]} records up to edge {said["edge"]}'
+    if said['outcome'] == 'none':
+        at = f':0x{int(said["refused_byte"]):x}' if 'refused_byte' in said else ''
+        number = f'refused {said["refused"]}: ' if 'refused' in said else ''
+        return f'{said["trouble_file"]}{at}: {number}{said["why"]}'
+    rule = int(said['rule'])
+    name = f'rule {rule} ({NAMES[rule]})'
+    if 'record_file' not in said:
+        return f'{last}: {name}: {passed(said, rule)}'
+    if rule == 1:
+        return f'{place(said, "record")}: {name}: at edge {said["record_edge"]} CKE changes where it may not'
+    return f'{place(said, "record")}: {name}: {command(said, "record")} at edge {said["record_edge"]}{why(said, rule)}'
+
+
+def clocks(n):
+    return '1 clock' if n == '1' else f'{n} clocks'
+
+
+def why(said, rule):
+    if rule == 2:
+        if 'partner_file' not in said:
+            return ': its bank is idle'
+        bank = said['partner_bank']
+        return f': bank {bank} is {said["bank" + bank]}, its ACT ({place(said, "partner")}) at edge {said["partner_edge"]}'
+    if rule == 3:
+        return ': ' + ('there is no such register' if int(said['record_bank']) > 3 and said['record_command'] == 'MRS' else LACKS[said['record_command']])
+    if rule == 23:
+        return f': no REF since SRX ({place(said, "partner")})'
+    return f', {clocks(said["found"])} after {counted_from(said)}, needs {said["needed"]}'
+
+
+def counted_from(said):
+    """The earlier record, or the start of its precharge where that is counted from."""
+    start = int(said['edge']) - int(said['found'])
+    earlier = f'{command(said, "partner")} ({place(said, "partner")})'
+    if start != int(said['partner_edge']):
+        return f'the precharge start at {start} of {earlier}'
+    return earlier
+
+
+def passed(said, rule):
+    partner = f'{command(said, "partner")} ({place(said, "partner")})' if 'partner_file' in said else 'none'
+    if rule == 24:
+        return f'passed at edge {said["edge"]}, {clocks(said["found"])} after {partner}, at most {said["needed"]}'
+    return f'{said["found"]} refreshes owed at edge {said["edge"]}, at most {said["needed"]}; last REF {partner}'
