@@ -1,16 +1,9 @@
 """The verdict in one line that begins with a file and an offset, as compilers write them."""
 
-NAMES = {
-    1: 'CKE change', 2: 'bank state', 3: 'registers', 4: 'tRCD', 5: 'tRP', 6: 'tRC', 7: 'tRRD', 8: 'tFAW', 9: 'tRAS', 10: 'AL + tRTP', 11: 'WL + h + tWR',
-    12: 'column to column', 13: 'RD to WR', 14: 'WR to RD', 15: 'tRFC', 16: 'tMRD', 17: 'tMOD', 18: 'ZQ time', 19: 'RL + b', 20: 'DLL', 21: 'tXS', 22: 'tCKE + 1',
-    23: 'REF between SRX and SRE', 24: 'greatest tRAS', 25: 'refresh debt',
-}
+from words import NAMES
 
 # The commands that speak of one bank.
 BANKED = {'ACT', 'RD', 'RDA', 'WR', 'WRA', 'PRE'}
-
-LACKS = {'MRS': 'this code is not allowed in this register', 'ACT': 'not all four registers are written', 'RD': 'no DLL reset was seen', 'RDA': 'no DLL reset was seen'}
-
 
 def place(said, what):
     return f'{said[what + "_file"]}:0x{int(said[what + "_byte"]):x}'
@@ -38,7 +31,9 @@ def told(said, last):
     if 'record_file' not in said:
         return f'{last}: {name}: {passed(said, rule)}'
     if rule == 1:
-        return f'{place(said, "record")}: {name}: at edge {said["record_edge"]} CKE changes where it may not'
+        entry = ': power-down entry, which is not judged' if said['record_power_down'] == '1' else ''
+        change = f'CKE from {said["record_cke_before"]} to {said["record_cke"]} with pins {said["record_pins"]}'
+        return f'{place(said, "record")}: {name}: {change} at edge {said["record_edge"]}{entry}'
     return f'{place(said, "record")}: {name}: {command(said, "record")} at edge {said["record_edge"]}{why(said, rule)}'
 
 
@@ -53,10 +48,21 @@ def why(said, rule):
         bank = said['partner_bank']
         return f': bank {bank} is {said["bank" + bank]}, its ACT ({place(said, "partner")}) at edge {said["partner_edge"]}'
     if rule == 3:
-        return ': ' + ('there is no such register' if int(said['record_bank']) > 3 and said['record_command'] == 'MRS' else LACKS[said['record_command']])
+        return ': ' + lacking(said)
     if rule == 23:
         return f': no REF since SRX ({place(said, "partner")})'
     return f', {clocks(said["found"])} after {counted_from(said)}, needs {said["needed"]}'
+
+
+def lacking(said):
+    """What rule 3 misses at this command."""
+    if said['record_command'] == 'MRS':
+        if int(said['record_bank']) > 3:
+            return 'there is no such register'
+        return f'code {said["record_address"]} is not allowed there'
+    if said['record_command'] == 'ACT':
+        return ', '.join(f'MR{i}' for i in range(4) if f'mr{i}' not in said) + ' not written'
+    return 'no DLL reset was seen'
 
 
 def counted_from(said):

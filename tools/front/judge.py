@@ -8,7 +8,9 @@ from brief import told
 from files import Unreadable, parts, refuse_at_once, shown
 from options import HELP, USAGE, Wrong, asked
 from programs import ROOT, Failed, answer, built
-from values import as_json, lines, said, with_names
+from records import around, table
+from report import report
+from values import as_json, lines, listed, said
 
 CLEAN, BROKEN, NONE, LOST = 0, 1, 2, 3
 STATUS = {b'clean': CLEAN, b'broken': BROKEN, b'refused': NONE}
@@ -83,41 +85,42 @@ def each(names):
 def ready_to_report(names):
     for name in names:
         refuse_at_once(name, twice=True)
-    built('verdict')
     built('lot')
-    for name in names[1:]:
-        if is_header(next(parts(name), b'')[:HEADER]):
+
+
+def told_of(names):
+    """The values, with a word on each file that begins with a header of its own."""
+    ready_to_report(names)
+    found = said(names)
+    for i, name in enumerate(names, 1):
+        if found.get(f'file{i}_headed') == '1':
             begins_a_recording(name)
+    return found
 
 
-def lot(names):
-    ready_to_report(names)
-    given = [b'./' + name if name.startswith(b'-') else name for name in names]
-    report = answer('lot', [], *given)
-    return report, reported(report)
+def laid_out(wanted):
+    """The values in the layout that is asked for."""
+    found, last = told_of(wanted.files), shown(wanted.files[-1])
+    if wanted.mode == 'json':
+        text = as_json(found)
+    elif wanted.mode == 'brief':
+        text = text_of([told(found, last)])
+    elif wanted.values:
+        text = lines(found)
+    else:
+        text = text_of(report(found, last, wanted.every))
+    return text, OUTCOME[found['outcome']]
 
 
-def laid_out(names, layout):
-    """The values in one of their layouts."""
-    ready_to_report(names)
-    found = with_names(said(names), names)
-    return layout(found, shown(names[-1])), OUTCOME[found['outcome']]
+def text_of(some):
+    return ''.join(f'{line}\n' for line in some).encode('utf-8', 'surrogateescape')
 
 
-LAYOUTS = {
-    'values': lambda found, last: lines(found),
-    'json': lambda found, last: as_json(found),
-    'brief': lambda found, last: (told(found, last) + '\n').encode('utf-8', 'surrogateescape'),
-}
-
-
-def reported(report):
-    """By the report's own line on the verdict."""
-    for line in report.split(b'\n'):
-        for word in b'clean', b'broken':
-            if line.startswith(b'Verdict: ' + word):
-                return STATUS[word]
-    return NONE
+def listing(wanted):
+    found, (first, last) = told_of(wanted.files), wanted.range
+    if (first, last) == (0, 0):
+        first, last = around(found)
+    return text_of(table(found, listed(wanted.files, first, last), wanted.files)), OUTCOME[found['outcome']]
 
 
 def version():
@@ -143,10 +146,10 @@ def run(words):
         return version()
     if wanted.mode == 'each':
         return each(wanted.files)
-    if wanted.mode == 'lot' and not wanted.values:
-        return lot(wanted.files)
     if wanted.mode in ('lot', 'json', 'brief'):
-        return laid_out(wanted.files, LAYOUTS[wanted.mode if wanted.mode != 'lot' else 'values'])
+        return laid_out(wanted)
+    if wanted.mode == 'list':
+        return listing(wanted)
     return judge(wanted.files)
 
 

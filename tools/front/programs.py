@@ -52,6 +52,7 @@ def prove(rt, name):
     if run.returncode != 0 or not os.access(path(name), os.X_OK):
         sys.stderr.write(b''.join(told).decode(errors='replace'))
         raise Failed(f'rt check {name} failed; what it said is above')
+    os.utime(path(name))  # rt leaves a program as it is whose own sources did not change
 
 
 def command(name, *words):

@@ -1,60 +1,110 @@
-"""What the proved program `lot` says of one recording, `name value` a line, with each key once and each file by its number.
-
-The program is handed numbered links, so that no file's name stands in what it prints and none can make a line."""
+"""What the proved program `lot` says of one recording, as values with one key each: a file bears its number, a row of the glossary its
+command's name. The program is handed numbered files and prints no name, so that none can make a line."""
 
 import json
-import os
 import re
-import tempfile
 
 from files import shown
 from programs import answer
+from words import REFUSALS, TROUBLES
 
-# Codes, rows, addresses and levels are digits and no numbers.
-DIGITS = re.compile(r'levels_\w+|\w+_(address|row)|mr[0-3]')
+STATUS = ['idle', 'open', 'closing']
+READING = {
+    'mr0': ['a1a0', 'interleave', 'cl', 'dll_reset', 'wr', 'a12'],
+    'mr1': ['a4a3', 'a1', 'a9a6a2', 'a11', 'a12', ''],
+    'mr2': ['cwl', 'a6', 'a7', 'a10a9', 'a2a1a0', ''],
+}
 
-
-def said(names):
-    """Key and value of each line, in order."""
-    with tempfile.TemporaryDirectory(prefix='judge') as folder:
-        links = []
-        for i, name in enumerate(names, 1):
-            links.append(os.fsencode(folder) + b'/%d' % i)
-            os.symlink(os.path.abspath(name), links[-1])
-        text = answer('lot', [], b'--values', *links).decode()
-    return numbered([(key, value.rpartition('/')[2] if is_file(key) else value) for key, _, value in (line.partition(' ') for line in text.splitlines())])
+# Codes, rows, addresses, levels and bytes are digits and no numbers.
+DIGITS = re.compile(r'levels_\w+|\w+_(address|row|bytes|pins)|mr[0-3]')
 
 
-def is_file(key):
-    return key == 'file' or key.endswith('_file')
+def printed(names, *words):
+    """Name and value of each line that the program prints."""
+    given = [b'./' + name if name.startswith(b'-') else name for name in names]
+    return [line.split(' ', 1) for line in answer('lot', [], *words, *given).decode().splitlines()]
 
 
-def numbered(lines):
-    """No key twice: what is told of each file bears the file's number, and the rows of one command are counted."""
-    found, levels, trouble = {}, {}, False
-    for key, value in lines:
-        trouble = trouble or (key, value) == ('outcome', 'none')
-        if key == 'file' and trouble:
-            key = 'trouble_file'
-        elif key == 'file':
-            file = value
-            key = f'file{file}'
-        elif key.startswith('file_'):
-            key = f'file{file}_{key[5:]}'
-        elif key.startswith('levels_'):
-            levels[key] = levels.get(key, 0) + 1
-            key = f'{key}_{levels[key]}'
-        found[key] = value
+def said(names, run=printed):
+    """The values of the recording that stands in these files, in order. run: runs the program and takes its lines apart."""
+    found = keyed(run(names))
+    if found['outcome'] == 'broken':
+        found.update(records(found, names, run))
+    return with_names(found, names)
+
+
+def records(found, names, run):
+    """The two records of a break; where it is a deadline, those on either side of its edge."""
+    wanted = {'record': int(found['record']), 'partner': int(found['partner'])}
+    if found['record'] == '0':
+        before = int(dict(run(names, b'--list', b'1', b'0', found['edge'].encode()))['records_before'])
+        wanted |= {'earlier': before, 'later': before + 1}
+    for what, number in wanted.items():
+        for record in listed(names, number, number, run):
+            yield what, str(record['number'])
+            for key, value in record.items():
+                if key != 'number':
+                    yield from laid(f'{what}_{key}', value).items()
+
+
+def listed(names, first, last, run=printed):
+    """The records with these numbers, each a dictionary."""
+    found = []
+    for key, value in run(names, b'--list', b'%d' % first, b'%d' % last, b'0'):
+        if key == 'list':
+            found.append({'number': int(value)})
+        elif key.startswith('list_'):
+            found[-1][key[len('list_'):]] = value
     return found
+
+
+def keyed(lines):
+    """Each value under a key of its own."""
+    found = {}
+    file, command, patterns = '', '', {}
+    for key, value in lines:
+        if key == 'file':
+            file = value
+            found[f'file{file}'] = value
+        elif key.startswith('file_'):
+            found[f'file{file}_{key[5:]}'] = value
+        elif key == 'row':
+            command = value
+            patterns[command] = patterns.get(command, 0) + 1
+        elif key == 'row_levels':
+            found[f'levels_{command}_{patterns[command]}'] = value
+        elif key.startswith('row_'):
+            found[f'{key[4:]}_{command}'] = value
+        else:
+            found.update(laid(key, value))
+    return found
+
+
+def laid(key, value):
+    """A value in the form in which it is told: a bank's state in words, a register's fields by name, the debt, the reason of a refusal."""
+    if re.fullmatch(r'bank\d', key):
+        return {key: STATUS[int(value)]}
+    if key.endswith('_reading'):
+        names = READING.get(key[:3], [])
+        return {f'{key[:3]}_{name}': number for name, number in zip(names, value.split(' ')) if name}
+    if key == 'debt_plus_8':
+        return {'debt': str(int(value) - 8)}
+    if key == 'why':
+        return {key: TROUBLES.get(value, value)}
+    if key == 'refused':
+        return {key: value, 'why': REFUSALS[int(value)]}
+    if key.endswith('_pins'):
+        return {key: f'{int(value):04b}'}
+    return {key: value}
 
 
 def with_names(found, names):
     """The files' names, as they are shown, in the place of their numbers."""
-    def named(key, value):
-        if re.fullmatch(r'file\d+|\w+_file', key):
-            return shown(names[int(value) - 1])
-        return value
-    return {key: named(key, value) for key, value in found.items()}
+    return {key: shown(names[int(value) - 1]) if is_file(key) else value for key, value in found.items()}
+
+
+def is_file(key):
+    return re.fullmatch(r'file\d+|\w+_file', key)
 
 
 def lines(found):
@@ -63,7 +113,7 @@ def lines(found):
 
 def as_json(found):
     def typed(key, value):
-        if re.fullmatch(r'-?\d+', value) and not DIGITS.fullmatch(key) and not re.fullmatch(r'file\d+|\w+_file', key):
+        if re.fullmatch(r'-?\d+', value) and not DIGITS.fullmatch(key) and not is_file(key):
             return int(value)
         return value
     return (json.dumps({key: typed(key, value) for key, value in found.items()}, indent=1) + '\n').encode()

@@ -1,60 +1,45 @@
-// The second reading: where the two records of a broken verdict stand, and what they say.
-use answers::Verdict;
-use records::Record;
+// The records of a list: where each stands, and what it says; and how many stand before an edge.
 use report::Found;
-use report::Named;
 
-// The numbers that are looked for, and the place of the next record: its file, byte, number less one, the edge and the CKE level before it.
+// The numbers of the list, the edge, and the place of the next record: its file, byte, number less one, the edge and the CKE level before it.
+// before: how many stand before the edge.
 struct Search {
-    first: u64,
-    second: u64,
-    file: usize,
+    from: u64,
+    to: u64,
+    limit: u64,
+    before: u64,
+    file: u64,
     at: u64,
     count: u64,
     edge: u64,
     level: bool,
-    named: Named,
 }
 
-// What can be read but once, as a pipe, is not found again: then the record stays none.
-pub(crate) fn records(v: Verdict, first: usize, end: usize) -> Named {
-    let mut s = start(v);
-    if v.outcome == 0 {
-        let named = s.named;
-        return named;
-    }
-    let mut i = first;
-    while i < end {
-        s = file(s, i, i == first);
-        i += 1;
-    }
-    let named = s.named;
-    named
-}
-
-fn start(v: Verdict) -> Search {
-    let none = Found {
-        number: 0,
-        file: 0,
-        at: 0,
-        edge: 0,
-        kind: 0,
-        bank: 0,
-        a: 0,
-    };
-    Search {
-        first: v.number,
-        second: v.partner,
+pub(crate) fn list(from: u64, to: u64, limit: u64, first: usize, end: usize) {
+    let start = Search {
+        from: from,
+        to: to,
+        limit: limit,
+        before: 0,
         file: 0,
         at: 0,
         count: 0,
         edge: 0,
         level: true,
-        named: Named {
-            record: none,
-            partner: none,
-        },
+    };
+    let last = files(start, first, end);
+    report::value(b"records_before", last.before);
+}
+
+fn files(start: Search, first: usize, end: usize) -> Search {
+    let mut s = start;
+    let mut i = first;
+    while i < end {
+        s.file = std::num::wrapping_add_u64(s.file, 1);
+        s = file(s, i, i == first);
+        i += 1;
     }
+    s
 }
 
 fn file(s: Search, i: usize, headed: bool) -> Search {
@@ -65,7 +50,6 @@ fn file(s: Search, i: usize, headed: bool) -> Search {
         return s;
     }
     let mut n = s;
-    n.file = i;
     n.at = 0;
     if headed {
         n.at = skipped(fd);
@@ -105,7 +89,8 @@ fn all(start: Search, bytes: &[u8]) -> Search {
     let mut s = start;
     let mut at: usize = 0;
     while 6 <= bytes.len() - at {
-        let r = records::decode(
+        s = next(
+            s,
             bytes[at],
             bytes[at + 1],
             bytes[at + 2],
@@ -113,42 +98,33 @@ fn all(start: Search, bytes: &[u8]) -> Search {
             bytes[at + 4],
             bytes[at + 5],
         );
-        s = next(s, r);
         at += 6;
     }
     s
 }
 
 // A record more. The numbers stay below the judge's limits, so nothing wraps.
-fn next(s: Search, r: Record) -> Search {
-    let count = std::num::wrapping_add_u64(s.count, 1);
-    let edge = std::num::wrapping_add_u64(s.edge, r.step);
-    let found = Found {
-        number: count,
-        file: s.file,
-        at: s.at,
-        edge: edge,
-        kind: tally::kind_at(s.level, r),
-        bank: r.bank,
-        a: r.a as u64,
-    };
+fn next(s: Search, b0: u8, b1: u8, b2: u8, b3: u8, b4: u8, b5: u8) -> Search {
+    let r = records::decode(b0, b1, b2, b3, b4, b5);
     let mut n = s;
     n.at = std::num::wrapping_add_u64(s.at, 6);
-    n.count = count;
-    n.edge = edge;
+    n.count = std::num::wrapping_add_u64(s.count, 1);
+    n.edge = std::num::wrapping_add_u64(s.edge, r.step);
     n.level = r.cke;
-    let named = s.named;
-    n.named = chosen(s.first, s.second, named, found);
-    n
-}
-
-fn chosen(first: u64, second: u64, named: Named, f: Found) -> Named {
-    let mut n = named;
-    if f.number == first {
-        n.record = f;
+    if n.edge < s.limit {
+        n.before = n.count;
     }
-    if f.number == second {
-        n.partner = f;
+    if (s.from <= n.count) & (n.count <= s.to) {
+        report::listed(Found {
+            number: n.count,
+            file: s.file,
+            at: s.at,
+            edge: n.edge,
+            before: s.level,
+            kind: tally::kind_at(s.level, r),
+            record: r,
+            word: bits::word(b0, b1, b2, b3, b4, b5),
+        });
     }
     n
 }

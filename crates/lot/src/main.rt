@@ -1,21 +1,22 @@
-// Reports on one lot: the files that its arguments name, in order, judged as one recording. The first begins with the six header
-// bytes, and each ends between records. With --values before them the report has one `name value` a line, for another program.
-// However the records are cut into files, the verdict and the counts are those of the uncut recording (rules, Sections; tally, Lots).
-// A file that cannot be judged ends the report with a line that says which and why. A program has no exit status to set.
+// Tells what is known of one lot, `name value` a line: the files that its arguments name, in order, judged as one recording. The first begins
+// with the six header bytes, and each ends between records. With `--list FROM TO EDGE` before them it tells the records of these numbers
+// instead, and how many stand before the edge.
+// However the records are cut into files, the verdict and the counts are those of the uncut recording (sections/proofs, Sections and Lots).
+// A file that cannot be judged ends it with the reason. A program has no exit status to set.
 mod find;
 mod reading;
 
-use judge::Closed;
 use judge::State;
 use tally::Tally;
 
-// Where the reading stands: the argument that names the file, the byte of it that comes next, the count and the edge at its start.
-// more: there may be more of the file. stopped: a file could not be judged, and there is no verdict.
+// Where the reading stands: the file's number, the byte of it that comes next, the count and the edge at its start, and whether it begins with
+// a header of its own. more: there may be more of the file. stopped: a file could not be judged, and there is no verdict.
 struct Place {
     file: usize,
     at: u64,
     count: u64,
     edge: u64,
+    headed: bool,
     more: bool,
     stopped: bool,
 }
@@ -29,74 +30,75 @@ struct Lot {
 }
 
 fn main() {
-    let values = asks_for_values();
-    let first = first_file(values);
     let end = os::arg_count();
-    if end <= first {
-        report::put(b"usage: lot [--values] FILE..\n");
+    if asks_for_a_list() {
+        find::list(number_at(2), number_at(3), number_at(4), 5, end);
         return;
     }
-    answer(judged(values, first, end), values, first, end);
-}
-
-fn asks_for_values() -> bool {
-    let mut word = [0u8; 9];
-    let n = os::arg(1, &mut word);
-    check::same(&word[..n], b"--values")
-}
-
-fn first_file(values: bool) -> usize {
-    if values {
-        return 2;
+    if end <= 1 {
+        report::put(b"usage: lot [--list FROM TO EDGE] FILE..\n");
+        return;
     }
-    1
+    answer(judged(end));
 }
 
-fn judged(values: bool, first: usize, end: usize) -> Lot {
-    let mut lot = reading::first(first, values);
-    let mut i = first;
+fn asks_for_a_list() -> bool {
+    let mut word = [0u8; 7];
+    let n = os::arg(1, &mut word);
+    check::same(&word[..n], b"--list")
+}
+
+// The number that an argument spells.
+fn number_at(i: usize) -> u64 {
+    let mut digits = [0u8; 20];
+    let n = os::arg(i, &mut digits);
+    spelled(&digits[..n])
+}
+
+fn spelled(digits: &[u8]) -> u64 {
+    let mut n: u64 = 0;
+    let mut i: usize = 0;
+    while i < digits.len() {
+        n = tens(n, digits[i]);
+        i += 1;
+    }
+    n
+}
+
+// Ten times n and the digit's value.
+fn tens(n: u64, digit: u8) -> u64 {
+    let two = std::num::wrapping_add_u64(n, n);
+    let four = std::num::wrapping_add_u64(two, two);
+    let eight = std::num::wrapping_add_u64(four, four);
+    let ten = std::num::wrapping_add_u64(eight, two);
+    std::num::wrapping_add_u64(ten, std::num::wrapping_sub_u64(digit as u64, 48))
+}
+
+fn judged(end: usize) -> Lot {
+    let mut lot = reading::first();
+    let mut i: usize = 1;
     while i < end {
-        if i != first {
-            lot = reading::later(lot, i, values);
+        if i != 1 {
+            lot = reading::later(lot, i);
         }
         i += 1;
     }
     lot
 }
 
-// Closes at the last record's edge.
-fn answer(lot: Lot, values: bool, first: usize, end: usize) {
+// Closes at the last record's edge. A state that was opened and whose last edge is the end is not refused.
+fn answer(lot: Lot) {
     if lot.place.stopped {
         return;
     }
     let state = lot.state;
     let c = state.close(state.rank.edge);
-    let tally = lot.tally;
-    let header = lot.header;
-    told(c, tally, header, state.rank.count, values, first, end);
-}
-
-// A state that was opened and whose last edge is the end is not refused.
-fn told(
-    c: Closed,
-    tally: Tally,
-    header: [u8; 6],
-    count: u32,
-    values: bool,
-    first: usize,
-    end: usize,
-) {
     if c.refused != 0 {
-        report::told::refusal(values, first, 0, c.refused);
+        report::refusal(1, 0, c.refused);
         return;
     }
     let e = c.end;
-    let v = e.verdict;
-    let named = find::records(v, first, end);
-    let records = count as u64;
-    if values {
-        report::values::report(tally, records, named, e, header);
-    } else {
-        report::person::report(tally, records, named, e, header);
-    }
+    let tally = lot.tally;
+    let header = lot.header;
+    report::end(tally, state.rank.count, e, header);
 }

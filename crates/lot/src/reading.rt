@@ -3,40 +3,39 @@ use crate::Lot;
 use crate::Place;
 use header::Header;
 use judge::State;
-use report::told;
 use tally::Tally;
 
 // A section's bytes.
 const SECTION: usize = 6000;
 
-// The lot's first file, which argument i names: the header, and the records behind it.
-pub(crate) fn first(i: usize, values: bool) -> Lot {
-    let fd = opened(i, values);
-    let start = headed(i, fd, values);
-    let end = sections(start, fd, values);
+// The lot's first file: the header, and the records behind it.
+pub(crate) fn first() -> Lot {
+    let fd = opened(1);
+    let start = headed(fd);
+    let end = sections(start, fd);
     libc::close(fd);
     end
 }
 
 // A later file.
-pub(crate) fn later(lot: Lot, i: usize, values: bool) -> Lot {
+pub(crate) fn later(lot: Lot, i: usize) -> Lot {
     if lot.place.stopped {
         return lot;
     }
-    let fd = opened(i, values);
+    let fd = opened(i);
     let place = begun(i, fd, lot.state.rank.count, lot.state.rank.edge);
-    let end = sections(moved(lot, place), fd, values);
+    let end = sections(moved(lot, place), fd);
     libc::close(fd);
     end
 }
 
 // A descriptor, or what is below 0 where the file cannot be opened.
-fn opened(i: usize, values: bool) -> i32 {
+fn opened(i: usize) -> i32 {
     let mut path = io::buffer();
     let k = os::arg(i, &mut path);
     let fd = os::open_read(&path[..k]);
     if fd < 0 {
-        told::unopened(values, i, os::errno());
+        report::trouble(i as u64, b"why unopened\n");
     }
     fd
 }
@@ -47,6 +46,7 @@ fn begun(i: usize, fd: i32, count: u32, edge: u64) -> Place {
         at: 0,
         count: count as u64,
         edge: edge,
+        headed: false,
         more: 0 <= fd,
         stopped: fd < 0,
     }
@@ -58,13 +58,13 @@ fn moved(lot: Lot, place: Place) -> Lot {
     n
 }
 
-fn headed(i: usize, fd: i32, values: bool) -> Lot {
+fn headed(fd: i32) -> Lot {
     let mut header = [0u8; 6];
     let k = io::read_full(fd, &mut header);
     let o = State::open(&header[..k]);
     let state = o.state;
-    let place = behind_header(begun(i, fd, 0, 0), fd, k, o.refused, values);
-    part(place.stopped, values, state.header);
+    let place = behind_header(begun(1, fd, 0, 0), fd, k, o.refused);
+    part(place.stopped, state.header);
     let tally = Tally::start();
     Lot {
         place: place,
@@ -75,13 +75,13 @@ fn headed(i: usize, fd: i32, values: bool) -> Lot {
 }
 
 // The place behind k bytes of a header.
-fn behind_header(p: Place, fd: i32, k: usize, refused: u64, values: bool) -> Place {
-    let start = behind(p, fd, k == 6, k, values);
+fn behind_header(p: Place, fd: i32, k: usize, refused: u64) -> Place {
+    let start = behind(p, fd, k == 6, k);
     if start.stopped {
         return start;
     }
     if refused != 0 {
-        told::refusal(values, start.file, 0, refused);
+        report::refusal(start.file as u64, 0, refused);
         return stopped(start);
     }
     let mut n = start;
@@ -89,26 +89,26 @@ fn behind_header(p: Place, fd: i32, k: usize, refused: u64, values: bool) -> Pla
     n
 }
 
-fn part(stopped: bool, values: bool, h: Header) {
+fn part(stopped: bool, h: Header) {
     if !stopped {
-        told::part(values, h);
+        report::part(h);
     }
 }
 
 // The place behind k bytes more; what is not full is to be the file's end.
-fn behind(p: Place, fd: i32, full: bool, k: usize, values: bool) -> Place {
+fn behind(p: Place, fd: i32, full: bool, k: usize) -> Place {
     let mut n = p;
     if p.stopped {
         return n;
     }
     if !full {
         if !ended(fd) {
-            told::unread(values, p.file);
+            report::trouble(p.file as u64, b"why unread\n");
             return stopped(p);
         }
     }
     if (p.at == 0) & (k == 0) {
-        told::empty(values, p.file);
+        report::trouble(p.file as u64, b"why empty\n");
         return stopped(p);
     }
     n.more = full;
@@ -130,30 +130,44 @@ fn ended(fd: i32) -> bool {
 }
 
 // Section after section. Nothing says that a file ends, so the turns count down from a number that no run uses up.
-fn sections(start: Lot, fd: i32, values: bool) -> Lot {
+fn sections(start: Lot, fd: i32) -> Lot {
     let mut lot = start;
     let mut turns = u64::MAX;
     while turns > 0 {
         if !lot.place.more {
             return lot;
         }
-        lot = section(lot, fd, values);
+        lot = section(lot, fd);
         turns -= 1;
     }
     lot
 }
 
-fn section(lot: Lot, fd: i32, values: bool) -> Lot {
+fn section(lot: Lot, fd: i32) -> Lot {
     let mut space = [0u8; SECTION];
     let k = io::read_full(fd, &mut space);
-    let place = behind(lot.place, fd, k == SECTION, k, values);
+    let mut place = behind(lot.place, fd, k == SECTION, k);
     if place.stopped {
         return moved(lot, place);
     }
-    taken(lot, place, &space[..k], values)
+    place.headed = place.headed | begins_anew(lot.place, &space[..k]);
+    taken(lot, place, &space[..k])
 }
 
-fn taken(lot: Lot, p: Place, bytes: &[u8], values: bool) -> Lot {
+// Does a later file begin with what opening would take as a header?
+fn begins_anew(p: Place, bytes: &[u8]) -> bool {
+    let head: usize = 6;
+    if (p.file == 1) | (p.at != 0) {
+        return false;
+    }
+    if bytes.len() < head {
+        return false;
+    }
+    let o = State::open(&bytes[..head]);
+    o.refused == 0
+}
+
+fn taken(lot: Lot, p: Place, bytes: &[u8]) -> Lot {
     let state = lot.state;
     let t = state.section(bytes);
     let tally = lot.tally;
@@ -165,10 +179,9 @@ fn taken(lot: Lot, p: Place, bytes: &[u8], values: bool) -> Lot {
         t.refused,
         u.refused,
         state.rank.count,
-        values,
     );
     let next = t.state;
-    tell(place, next.rank.count, next.rank.edge, values);
+    tell(place, next.rank.count, next.rank.edge);
     let counted = u.tally;
     let header = lot.header;
     Lot {
@@ -180,38 +193,30 @@ fn taken(lot: Lot, p: Place, bytes: &[u8], values: bool) -> Lot {
 }
 
 // The place behind a section that began at the byte `at`, or stopped where the judge or the tally refused it.
-fn checked(
-    p: Place,
-    at: u64,
-    bytes: &[u8],
-    refused: u64,
-    other: u64,
-    count: u32,
-    values: bool,
-) -> Place {
+fn checked(p: Place, at: u64, bytes: &[u8], refused: u64, other: u64, count: u32) -> Place {
     if refused != 0 {
         let place = std::num::wrapping_add_u64(at, offset(refused, bytes, count) as u64);
-        told::refusal(values, p.file, place, refused);
+        report::refusal(p.file as u64, place, refused);
         return stopped(p);
     }
     if other != 0 {
-        told::refusal(values, p.file, at, other);
+        report::refusal(p.file as u64, at, other);
         return stopped(p);
     }
     p
 }
 
 // A line for a file that was read to its end.
-fn tell(p: Place, count: u32, edge: u64, values: bool) {
+fn tell(p: Place, count: u32, edge: u64) {
     if p.more | p.stopped {
         return;
     }
-    told::read(
-        values,
-        p.file,
+    report::file(
+        p.file as u64,
         std::num::wrapping_sub_u64(count as u64, p.count),
         p.edge,
         edge,
+        p.headed,
     );
 }
 

@@ -1,26 +1,27 @@
-// What the report on a lot's files prints, for a person or for another program. What is written to standard
-// output is under no contract; how a level is shown is, and the rows with their counts are the glossary's.
-mod ending;
-pub mod person;
+// What is known of a lot's files, on standard output: `name value` a line, and nothing laid out. What is written is under no contract; what the
+// values are is, where they are worked out.
 mod text;
-pub mod told;
-pub mod values;
-mod words;
+mod values;
 
+use records::Record;
 pub use text::put;
+pub use text::value;
+pub use values::end;
+pub use values::file;
+pub use values::listed;
+pub use values::part;
+pub use values::refusal;
+pub use values::trouble;
 
-// A record: its number, the argument that names its file, its first byte there, and what it says. Number 0: none.
+// A record: its number, its file's, its first byte there, its edge, the CKE level before it, its kind in the tally, and its six bytes as
+// one number.
 pub struct Found {
     pub number: u64,
-    pub file: usize,
+    pub file: u64,
     pub at: u64,
     pub edge: u64,
+    pub before: bool,
     pub kind: usize,
-    pub bank: u64,
-    pub a: u64,
-}
-
-pub struct Named {
-    pub record: Found,
-    pub partner: Found,
+    pub record: Record,
+    pub word: u64,
 }

@@ -14,25 +14,17 @@ pub(crate) fn number(n: u64) {
     io::print_decimal(STDOUT_FILENO, n);
 }
 
-// One text or the other.
-pub(crate) fn either(first: bool, a: &[u8], b: &[u8]) {
-    if first {
-        put(a);
-    } else {
-        put(b);
-    }
-}
-
 // A text and a number.
 pub(crate) fn say(text: &[u8], n: u64) {
     put(text);
     number(n);
 }
 
-// A text and a word of 16 bits in hexadecimal.
-pub(crate) fn say_hex(text: &[u8], n: u64) {
+// A text, and a number in hexadecimal with so many digits.
+pub(crate) fn hex(text: &[u8], n: u64, digits: usize) {
     put(text);
-    io::print_hex(STDOUT_FILENO, n, 4);
+    io::print_hex(STDOUT_FILENO, n, digits);
+    put(b"\n");
 }
 
 // A text without the spaces that fill it up.
@@ -67,36 +59,8 @@ pub(crate) fn level(l: u64) -> u8
     b'x'
 }
 
-// The file that argument i names.
-pub(crate) fn name(i: usize) {
-    let mut path = io::buffer();
-    let k = os::arg(i, &mut path);
-    put(&path[..k]);
-}
-
-// A number at the end of a column of eight.
-pub(crate) fn column(n: u64) {
-    let mut digits = [0u8; 20];
-    let k = io::decimal(n, &mut digits);
-    pad(k);
-    put(&digits[..k]);
-}
-
-fn pad(k: usize) {
-    match k {
-        1 => put(b"       "),
-        2 => put(b"      "),
-        3 => put(b"     "),
-        4 => put(b"    "),
-        5 => put(b"   "),
-        6 => put(b"  "),
-        7 => put(b" "),
-        _ => {}
-    }
-}
-
 // `name value`, and the line's end.
-pub(crate) fn value(name: &[u8], n: u64) {
+pub fn value(name: &[u8], n: u64) {
     put(name);
     say(b" ", n);
     put(b"\n");

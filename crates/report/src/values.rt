@@ -1,83 +1,119 @@
-// The report for another program: `name value`, one a line.
+// Each value under its name. A name that stands several times (file, row, list) begins anew what follows it.
 use crate::Found;
-use crate::Named;
-use crate::ending::debt;
+use crate::text::hex;
 use crate::text::level;
-use crate::text::name;
 use crate::text::put;
 use crate::text::say;
-use crate::text::say_hex;
 use crate::text::value;
 use crate::text::word;
 use answers::End;
 use answers::Register;
 use answers::Shown;
 use answers::Verdict;
+use chip::Chip;
 use glossary::Line;
-use glossary::Row;
 use header::Header;
+use records::Record;
 use tally::Tally;
+ghost use mathlib.Core.Path.{_≡_};
+ghost use mathlib.Core.Bool.{not, _&&_};
+ghost use lib.Dec.{leb};
 
-pub(crate) fn part(h: Header) {
+pub fn part(h: Header) {
     value(b"bin", h.bin as u64);
     value(b"density_gb", if h.dense { 2 } else { 1 });
     value(b"width", if h.wide { 16 } else { 8 });
     value(b"period_ps", h.period.ps);
-    value(b"hot", if h.hot { 1 } else { 0 });
+    value(b"hot", bit(h.hot));
+    clocks(chip::chip_of(h));
 }
 
-pub(crate) fn file(i: usize, records: u64, from: u64, to: u64) {
-    put(b"file ");
-    name(i);
-    put(b"\n");
+fn bit(b: bool) -> u64 {
+    if b {
+        return 1;
+    }
+    0
+}
+
+fn count(name: &[u8], n: u32) {
+    value(name, n as u64);
+}
+
+// Each time of the part in clocks.
+fn clocks(c: Chip) {
+    count(b"clocks_trcd", c.trcd);
+    count(b"clocks_trp", c.trp);
+    count(b"clocks_trc", c.trc);
+    count(b"clocks_tras", c.tras);
+    count(b"clocks_trrd", c.trrd);
+    count(b"clocks_tfaw", c.tfaw);
+    count(b"clocks_tcke", c.tcke);
+    count(b"clocks_trtp", c.trtp);
+    count(b"clocks_twtr", c.twtr);
+    count(b"clocks_twr", c.twr);
+    count(b"clocks_tmod", c.tmod);
+    count(b"clocks_trfc", c.trfc);
+    count(b"clocks_txs", c.txs);
+    count(b"clocks_zqlong", c.zqlong);
+    count(b"clocks_zqshort", c.zqshort);
+    count(b"clocks_most", c.most);
+    count(b"clocks_trefi", c.trefi);
+}
+
+// A file that was read to its end: its number, its records, the edge before it and its last; whether it begins with a header of its own.
+pub fn file(n: u64, records: u64, from: u64, to: u64, headed: bool) {
+    value(b"file", n);
     value(b"file_records", records);
     value(b"file_after_edge", from);
     value(b"file_to_edge", to);
+    value(b"file_headed", bit(headed));
 }
 
-pub fn report(t: Tally, count: u64, named: Named, c: End, header: [u8; 6]) {
+// A file that cannot be judged, and why: there is no verdict.
+pub fn trouble(n: u64, why: &[u8]) {
+    put(b"outcome none\n");
+    value(b"trouble_file", n);
+    put(why);
+}
+
+// A refusal of 01, at a byte of the file.
+pub fn refusal(n: u64, at: u64, refused: u64) {
+    trouble(n, b"why refused\n");
+    value(b"refused", refused);
+    value(b"refused_byte", at);
+}
+
+// The tally, the verdict, and what stands at the end.
+pub fn end(t: Tally, records: u32, c: End, header: [u8; 6]) {
     let counts = t.counts;
-    commands(counts);
-    value(b"count_all", count);
+    rows(counts);
+    count(b"count_all", records);
     let v = c.verdict;
     verdict(v);
-    record(b"record", broken_by(v), named.record);
-    record(b"partner", v.partner, named.partner);
     let banks = c.banks;
     print_banks(banks);
     let registers = c.registers;
     print_registers(header, registers);
-    put(b"debt ");
-    debt(c.owed);
-    put(b"\n");
+    value(b"debt_plus_8", c.owed);
 }
 
-// ── The tally ─────────────────────────────────────────────────────────────────────────────
-
-// A line for each row of the glossary, and a count for each kind.
-fn commands(counts: [u64; 17]) {
+// The rows of the glossary, with the count of each one's kind.
+fn rows(counts: [u64; 17]) {
     let mut i: usize = 0;
     while i < 24 {
         let l = glossary::line_at(i, counts);
-        line(l);
+        row(l);
         i += 1;
     }
 }
 
 // CKE before and now, CS, RAS, CAS, WE, A10.
-fn line(l: Line) {
+fn row(l: Line) {
     let w = l.row;
-    if l.first {
-        put(b"count_");
-        command(w);
-        say(b" ", l.count);
-        put(b"\n");
-    }
-    put(b"levels_");
-    command(w);
+    let name = w.name;
+    text(b"row ", &name);
     let x = w.levels;
     let levels = [
-        b' ',
         level(x[0]),
         level(x[1]),
         level(x[2]),
@@ -85,66 +121,63 @@ fn line(l: Line) {
         level(x[4]),
         level(x[5]),
         level(x[6]),
-        b'\n',
     ];
-    put(&levels);
+    text(b"row_levels ", &levels);
+    let meaning = w.meaning;
+    text(b"row_meaning ", &meaning);
+    value(b"row_count", l.count);
 }
 
-fn command(w: Row) {
-    let text = w.name;
-    word(&text);
+fn text(name: &[u8], words: &[u8]) {
+    put(name);
+    word(words);
+    put(b"\n");
 }
-
-// ── The verdict ───────────────────────────────────────────────────────────────────────────
 
 fn verdict(v: Verdict) {
     if v.outcome == 0 {
         put(b"outcome clean\n");
     } else {
         put(b"outcome broken\n");
+        value(b"record", v.number);
     }
     value(b"rule", v.rule);
+    value(b"partner", v.partner);
     value(b"edge", v.edge);
     value(b"needed", v.needed);
     value(b"found", v.found);
 }
 
-// The number of the record that breaks a rule, 0 for none: a clean verdict's number is that of all records.
-fn broken_by(v: Verdict) -> u64 {
-    if v.outcome == 0 {
-        return 0;
-    }
-    v.number
+// One record of a list.
+pub fn listed(f: Found) {
+    let r = f.record;
+    let w = glossary::row_of(f.kind as u64);
+    let name = w.name;
+    value(b"list", f.number);
+    value(b"list_file", f.file);
+    value(b"list_byte", f.at);
+    value(b"list_edge", f.edge);
+    text(b"list_command ", &name);
+    value(b"list_cke_before", bit(f.before));
+    value(b"list_cke", bit(r.cke));
+    value(b"list_pins", r.pins);
+    value(b"list_power_down", bit(enters_power_down(f.before, r)));
+    value(b"list_bank", r.bank);
+    hex(b"list_address ", r.a as u64, 4);
+    hex(b"list_bytes ", f.word, 12);
 }
 
-// The number alone where there is none, and where a second reading did not find it.
-fn record(what: &[u8], number: u64, f: Found) {
-    value(what, number);
-    if f.number == 0 {
-        return;
-    }
-    put(what);
-    put(b"_file ");
-    name(f.file);
-    put(b"\n");
-    part_of(what, b"_byte", f.at);
-    part_of(what, b"_edge", f.edge);
-    put(what);
-    put(b"_command ");
-    command(glossary::row_of(f.kind as u64));
-    put(b"\n");
-    part_of(what, b"_bank", f.bank);
-    put(what);
-    say_hex(b"_address ", f.a);
-    put(b"\n");
+// CKE falls with a NOP or a DES.
+fn enters_power_down(before: bool, r: Record) -> bool
+    ensures { λ x. ⌜ x ≡ before && (not (r .cke) && leb 7 (r .pins)) ⌝ }
+{
+    before & (!r.cke & (7 <= r.pins))
 }
 
-fn part_of(what: &[u8], label: &[u8], n: u64) {
+fn of(what: &[u8], name: &[u8], n: u64) {
     put(what);
-    value(label, n);
+    value(name, n);
 }
-
-// ── Banks and registers ───────────────────────────────────────────────────────────────────
 
 fn print_banks(banks: [Shown; 8]) {
     bank(b"bank0", banks[0]);
@@ -157,22 +190,14 @@ fn print_banks(banks: [Shown; 8]) {
     bank(b"bank7", banks[7]);
 }
 
-fn bank(label: &[u8], b: Shown) {
-    put(label);
-    let status = b.status;
-    match status {
-        0 => put(b" idle\n"),
-        1 => opened(b" open\n", label, b),
-        _ => opened(b" closing\n", label, b),
+// 0 idle, 1 open, 2 closing; row and ACT edge unless it is idle.
+fn bank(name: &[u8], b: Shown) {
+    value(name, b.status);
+    if b.status != 0 {
+        put(name);
+        hex(b"_row ", b.row, 4);
+        of(name, b"_act_edge", b.act);
     }
-}
-
-fn opened(status: &[u8], label: &[u8], b: Shown) {
-    put(status);
-    put(label);
-    say_hex(b"_row ", b.row);
-    put(b"\n");
-    part_of(label, b"_act_edge", b.act);
 }
 
 fn print_registers(header: [u8; 6], registers: [Register; 4]) {
@@ -182,50 +207,31 @@ fn print_registers(header: [u8; 6], registers: [Register; 4]) {
     register(header, 3, b"mr3", registers[3]);
 }
 
-fn register(header: [u8; 6], n: u32, label: &[u8], g: Register) {
-    put(label);
+// Its code and the six values of register reading, if it is written.
+fn register(header: [u8; 6], n: u32, name: &[u8], g: Register) {
     if !g.written {
-        put(b" none\n");
         return;
     }
-    say_hex(b" ", g.code as u64);
-    put(b"\n");
+    put(name);
+    hex(b" ", g.code as u64, 4);
     let mut six = [0u8; 6];
     if registers::read(&header, n, g.code, &mut six) == 0 {
-        fields(n, six);
+        put(name);
+        reading(six);
     }
 }
 
-fn fields(n: u32, six: [u8; 6]) {
-    match n {
-        0 => mr0(six),
-        1 => mr1(six),
-        2 => mr2(six),
-        _ => {}
-    }
+fn small(n: u8) {
+    say(b" ", n as u64);
 }
 
-fn mr0(six: [u8; 6]) {
-    value(b"mr0_a1a0", six[0] as u64);
-    value(b"mr0_interleave", six[1] as u64);
-    value(b"mr0_cl", six[2] as u64);
-    value(b"mr0_dll_reset", six[3] as u64);
-    value(b"mr0_wr", six[4] as u64);
-    value(b"mr0_a12", six[5] as u64);
-}
-
-fn mr1(six: [u8; 6]) {
-    value(b"mr1_a4a3", six[0] as u64);
-    value(b"mr1_a1", six[1] as u64);
-    value(b"mr1_a9a6a2", six[2] as u64);
-    value(b"mr1_a11", six[3] as u64);
-    value(b"mr1_a12", six[4] as u64);
-}
-
-fn mr2(six: [u8; 6]) {
-    value(b"mr2_cwl", six[0] as u64);
-    value(b"mr2_a6", six[1] as u64);
-    value(b"mr2_a7", six[2] as u64);
-    value(b"mr2_a10a9", six[3] as u64);
-    value(b"mr2_a2a1a0", six[4] as u64);
+fn reading(six: [u8; 6]) {
+    put(b"_reading");
+    small(six[0]);
+    small(six[1]);
+    small(six[2]);
+    small(six[3]);
+    small(six[4]);
+    small(six[5]);
+    put(b"\n");
 }

@@ -6,10 +6,10 @@ use Rattle.lot.proofs.judged.Statement.{statement}
 use Rattle.lot.proofs.judged.Tie as tie
 
 abbrev Inv-loop : tie.InvT-loop
-Inv-loop values first end lot₀ i₀ lot i = Unit
+Inv-loop end lot₀ i₀ lot i = Unit
 
 abbrev μ-loop : tie.MeasureT-loop
-μ-loop values first end lot₀ i₀ lot i = end - i
+μ-loop end lot₀ i₀ lot i = end - i
 
 first-requires : tie.Need-first-requires Inv-loop μ-loop
 first-requires c κs = search needs

@@ -18,41 +18,38 @@ loop-holds c = search needs
 sub-loop : tie.Need-sub-loop Inv-loop μ-loop
 sub-loop c = search needs
 
-shared-slice-read-decode : tie.Need-shared-slice-read-decode Inv-loop μ-loop
-shared-slice-read-decode c = search needs
+shared-slice-read-next : tie.Need-shared-slice-read-next Inv-loop μ-loop
+shared-slice-read-next c = search needs
 
-add-decode : tie.Need-add-decode Inv-loop μ-loop
-add-decode c = search needs
+add-next : tie.Need-add-next Inv-loop μ-loop
+add-next c = search needs
 
-shared-slice-read-decode-2 : tie.Need-shared-slice-read-decode-2 Inv-loop μ-loop
-shared-slice-read-decode-2 c = search needs
+shared-slice-read-next-2 : tie.Need-shared-slice-read-next-2 Inv-loop μ-loop
+shared-slice-read-next-2 c = search needs
 
-add-decode-2 : tie.Need-add-decode-2 Inv-loop μ-loop
-add-decode-2 c = search needs
+add-next-2 : tie.Need-add-next-2 Inv-loop μ-loop
+add-next-2 c = search needs
 
-shared-slice-read-decode-3 : tie.Need-shared-slice-read-decode-3 Inv-loop μ-loop
-shared-slice-read-decode-3 c = search needs
+shared-slice-read-next-3 : tie.Need-shared-slice-read-next-3 Inv-loop μ-loop
+shared-slice-read-next-3 c = search needs
 
-add-decode-3 : tie.Need-add-decode-3 Inv-loop μ-loop
-add-decode-3 c = search needs
+add-next-3 : tie.Need-add-next-3 Inv-loop μ-loop
+add-next-3 c = search needs
 
-shared-slice-read-decode-4 : tie.Need-shared-slice-read-decode-4 Inv-loop μ-loop
-shared-slice-read-decode-4 c = search needs
+shared-slice-read-next-4 : tie.Need-shared-slice-read-next-4 Inv-loop μ-loop
+shared-slice-read-next-4 c = search needs
 
-add-decode-4 : tie.Need-add-decode-4 Inv-loop μ-loop
-add-decode-4 c = search needs
+add-next-4 : tie.Need-add-next-4 Inv-loop μ-loop
+add-next-4 c = search needs
 
-shared-slice-read-decode-5 : tie.Need-shared-slice-read-decode-5 Inv-loop μ-loop
-shared-slice-read-decode-5 c = search needs
+shared-slice-read-next-5 : tie.Need-shared-slice-read-next-5 Inv-loop μ-loop
+shared-slice-read-next-5 c = search needs
 
-add-decode-5 : tie.Need-add-decode-5 Inv-loop μ-loop
-add-decode-5 c = search needs
+add-next-5 : tie.Need-add-next-5 Inv-loop μ-loop
+add-next-5 c = search needs
 
-shared-slice-read-decode-6 : tie.Need-shared-slice-read-decode-6 Inv-loop μ-loop
-shared-slice-read-decode-6 c = search needs
-
-decode-requires : tie.Need-decode-requires Inv-loop μ-loop
-decode-requires c κs = search needs
+shared-slice-read-next-6 : tie.Need-shared-slice-read-next-6 Inv-loop μ-loop
+shared-slice-read-next-6 c = search needs
 
 next-requires : tie.Need-next-requires Inv-loop μ-loop
 next-requires c κs = search needs
@@ -77,18 +74,17 @@ all-spec =
     μ-loop
     loop-holds
     sub-loop
-    shared-slice-read-decode
-    add-decode
-    shared-slice-read-decode-2
-    add-decode-2
-    shared-slice-read-decode-3
-    add-decode-3
-    shared-slice-read-decode-4
-    add-decode-4
-    shared-slice-read-decode-5
-    add-decode-5
-    shared-slice-read-decode-6
-    decode-requires
+    shared-slice-read-next
+    add-next
+    shared-slice-read-next-2
+    add-next-2
+    shared-slice-read-next-3
+    add-next-3
+    shared-slice-read-next-4
+    add-next-4
+    shared-slice-read-next-5
+    add-next-5
+    shared-slice-read-next-6
     next-requires
     add-at
     loop-less

@@ -5,10 +5,10 @@ use Rattle.lot.proofs.reading.sections.Statement.{statement}
 use Rattle.lot.proofs.reading.sections.Tie as tie
 
 abbrev Inv-loop : tie.InvT-loop
-Inv-loop fd values lot₀ turns₀ lot turns = Unit
+Inv-loop fd lot₀ turns₀ lot turns = Unit
 
 abbrev μ-loop : tie.MeasureT-loop
-μ-loop fd values lot₀ turns₀ lot turns = turns
+μ-loop fd lot₀ turns₀ lot turns = turns
 
 loop-holds : tie.Need-loop-holds Inv-loop μ-loop
 loop-holds c = search needs

@@ -1,24 +1,25 @@
--- `lot::values::commands` is safe and ends: a turn for each row.
+-- `lot::spelled` is safe and ends: a turn for each digit.
 -- Assumes nothing.
 use Prim.Native.Nat.{_≤_, _-_}
+use lib.ListN.{length}
 use borrow.Author.Needs.{needs}
-use Rattle.report.proofs.values.commands.Statement.{statement}
-use Rattle.report.proofs.values.commands.Tie as tie
+use Rattle.lot.proofs.spelled.Statement.{statement}
+use Rattle.lot.proofs.spelled.Tie as tie
 
 abbrev Inv-loop : tie.InvT-loop
-Inv-loop counts i₀ i = i ≤ 24
+Inv-loop digits n₀ i₀ n i = i ≤ length digits
 
 abbrev μ-loop : tie.MeasureT-loop
-μ-loop counts i₀ i = 24 - i
+μ-loop digits n₀ i₀ n i = length digits - i
 
 loop-holds : tie.Need-loop-holds Inv-loop μ-loop
 loop-holds c = search needs
 
-line-at-requires : tie.Need-line-at-requires Inv-loop μ-loop
-line-at-requires c κs = search needs
+shared-slice-read-tens : tie.Need-shared-slice-read-tens Inv-loop μ-loop
+shared-slice-read-tens c = search needs
 
-line-requires : tie.Need-line-requires Inv-loop μ-loop
-line-requires c κs = search needs
+tens-requires : tie.Need-tens-requires Inv-loop μ-loop
+tens-requires c κs = search needs
 
 add-i : tie.Need-add-i Inv-loop μ-loop
 add-i c = search needs
@@ -32,15 +33,15 @@ loop-again c = search needs
 returns : tie.Need-returns Inv-loop μ-loop
 returns c = search needs
 
-pub commands-spec : {M : Type 1} → statement M
-commands-spec =
+pub spelled-spec : {M : Type 1} → statement M
+spelled-spec =
     tie.close
     (tie.spec
     Inv-loop
     μ-loop
     loop-holds
-    line-at-requires
-    line-requires
+    shared-slice-read-tens
+    tens-requires
     add-i
     loop-less
     loop-again
