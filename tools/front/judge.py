@@ -124,13 +124,17 @@ def listing(wanted):
 
 
 def version():
-    git = subprocess.run(['git', '-C', ROOT, 'rev-parse', 'HEAD'], capture_output=True, text=True, check=False) if (ROOT / '.git').exists() else None
-    commit = git.stdout.strip() if git and git.returncode == 0 else 'unknown'
+    commit = first_line('git', '-C', ROOT, 'rev-parse', 'HEAD') if (ROOT / '.git').exists() else ''
+    return f'manilaply {commit or "of an unknown commit"}\n{first_line("rt", "version") or "rt is not to be found"}\n'.encode(), CLEAN
+
+
+def first_line(*words):
+    """What a command says, or nothing where it cannot be run."""
     try:
-        kit = subprocess.run(['rt', 'version'], capture_output=True, text=True, check=False).stdout.strip()
+        ran = subprocess.run(words, capture_output=True, text=True, check=False)
     except OSError:
-        kit = 'rt is not to be found'
-    return f'manilaply {commit}\n{kit}\n'.encode(), CLEAN
+        return ''
+    return ran.stdout.strip() if ran.returncode == 0 else ''
 
 
 def write(text):
