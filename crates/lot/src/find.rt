@@ -1,34 +1,27 @@
 // The records of a list: where each stands, and what it says; and how many stand before an edge.
-use report::Found;
+use crate::text::value;
+use crate::values::listed;
+use tally::Reached;
 
-// The numbers of the list, the edge, and the place of the next record: its file, byte, number less one, the edge and the CKE level before it.
-// before: how many stand before the edge.
+// The numbers of the list, how far the walk has come, and the next record's file and byte there.
 struct Search {
     from: u64,
     to: u64,
-    limit: u64,
-    before: u64,
+    reached: Reached,
     file: u64,
     at: u64,
-    count: u64,
-    edge: u64,
-    level: bool,
 }
 
 pub(crate) fn list(from: u64, to: u64, limit: u64, first: usize, end: usize) {
     let start = Search {
         from: from,
         to: to,
-        limit: limit,
-        before: 0,
+        reached: Reached::start(limit),
         file: 0,
         at: 0,
-        count: 0,
-        edge: 0,
-        level: true,
     };
     let last = files(start, first, end);
-    report::value(b"records_before", last.before);
+    value(b"records_before", last.reached.before);
 }
 
 fn files(start: Search, first: usize, end: usize) -> Search {
@@ -103,28 +96,19 @@ fn all(start: Search, bytes: &[u8]) -> Search {
     s
 }
 
-// A record more. The numbers stay below the judge's limits, so nothing wraps.
+// A record more. A file's bytes stay below the judge's limits, so nothing wraps.
 fn next(s: Search, b0: u8, b1: u8, b2: u8, b3: u8, b4: u8, b5: u8) -> Search {
-    let r = records::decode(b0, b1, b2, b3, b4, b5);
-    let mut n = s;
-    n.at = std::num::wrapping_add_u64(s.at, 6);
-    n.count = std::num::wrapping_add_u64(s.count, 1);
-    n.edge = std::num::wrapping_add_u64(s.edge, r.step);
-    n.level = r.cke;
-    if n.edge < s.limit {
-        n.before = n.count;
+    let before = s.reached;
+    let f = before.found(records::decode(b0, b1, b2, b3, b4, b5));
+    let reached = f.reached;
+    if (s.from <= reached.number) & (reached.number <= s.to) {
+        listed(f, s.file, s.at, bits::word(b0, b1, b2, b3, b4, b5));
     }
-    if (s.from <= n.count) & (n.count <= s.to) {
-        report::listed(Found {
-            number: n.count,
-            file: s.file,
-            at: s.at,
-            edge: n.edge,
-            before: s.level,
-            kind: tally::kind_at(s.level, r),
-            record: r,
-            word: bits::word(b0, b1, b2, b3, b4, b5),
-        });
+    Search {
+        from: s.from,
+        to: s.to,
+        reached: reached,
+        file: s.file,
+        at: std::num::wrapping_add_u64(s.at, 6),
     }
-    n
 }

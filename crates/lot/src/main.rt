@@ -5,6 +5,8 @@
 // A file that cannot be judged ends it with the reason. A program has no exit status to set.
 mod find;
 mod reading;
+mod text;
+mod values;
 
 use judge::State;
 use tally::Tally;
@@ -36,7 +38,7 @@ fn main() {
         return;
     }
     if end <= 1 {
-        report::put(b"usage: lot [--list FROM TO EDGE] FILE..\n");
+        text::put(b"usage: lot [--list FROM TO EDGE] FILE..\n");
         return;
     }
     answer(judged(end));
@@ -94,11 +96,11 @@ fn answer(lot: Lot) {
     let state = lot.state;
     let c = state.close(state.rank.edge);
     if c.refused != 0 {
-        report::refusal(1, 0, c.refused);
+        values::refusal(1, 0, c.refused);
         return;
     }
     let e = c.end;
     let tally = lot.tally;
     let header = lot.header;
-    report::end(tally, state.rank.count, e, header);
+    values::end(tally, state.rank.count, e, header);
 }

@@ -1,6 +1,7 @@
 // The first reading: each file's bytes, in sections of 6,000, through the judge and the tally.
 use crate::Lot;
 use crate::Place;
+use crate::values;
 use header::Header;
 use judge::State;
 use tally::Tally;
@@ -35,7 +36,7 @@ fn opened(i: usize) -> i32 {
     let k = os::arg(i, &mut path);
     let fd = os::open_read(&path[..k]);
     if fd < 0 {
-        report::trouble(i as u64, b"why unopened\n");
+        values::trouble(i as u64, b"why unopened\n");
     }
     fd
 }
@@ -81,7 +82,7 @@ fn behind_header(p: Place, fd: i32, k: usize, refused: u64) -> Place {
         return start;
     }
     if refused != 0 {
-        report::refusal(start.file as u64, 0, refused);
+        values::refusal(start.file as u64, 0, refused);
         return stopped(start);
     }
     let mut n = start;
@@ -91,7 +92,7 @@ fn behind_header(p: Place, fd: i32, k: usize, refused: u64) -> Place {
 
 fn part(stopped: bool, h: Header) {
     if !stopped {
-        report::part(h);
+        values::part(h);
     }
 }
 
@@ -103,12 +104,12 @@ fn behind(p: Place, fd: i32, full: bool, k: usize) -> Place {
     }
     if !full {
         if !ended(fd) {
-            report::trouble(p.file as u64, b"why unread\n");
+            values::trouble(p.file as u64, b"why unread\n");
             return stopped(p);
         }
     }
     if (p.at == 0) & (k == 0) {
-        report::trouble(p.file as u64, b"why empty\n");
+        values::trouble(p.file as u64, b"why empty\n");
         return stopped(p);
     }
     n.more = full;
@@ -195,12 +196,12 @@ fn taken(lot: Lot, p: Place, bytes: &[u8]) -> Lot {
 // The place behind a section that began at the byte `at`, or stopped where the judge or the tally refused it.
 fn checked(p: Place, at: u64, bytes: &[u8], refused: u64, other: u64, count: u32) -> Place {
     if refused != 0 {
-        let place = std::num::wrapping_add_u64(at, offset(refused, bytes, count) as u64);
-        report::refusal(p.file as u64, place, refused);
+        let place = std::num::wrapping_add_u64(at, tally::refused_at(refused, bytes, count) as u64);
+        values::refusal(p.file as u64, place, refused);
         return stopped(p);
     }
     if other != 0 {
-        report::refusal(p.file as u64, at, other);
+        values::refusal(p.file as u64, at, other);
         return stopped(p);
     }
     p
@@ -211,44 +212,11 @@ fn tell(p: Place, count: u32, edge: u64) {
     if p.more | p.stopped {
         return;
     }
-    report::file(
+    values::file(
         p.file as u64,
         std::num::wrapping_sub_u64(count as u64, p.count),
         p.edge,
         edge,
         p.headed,
     );
-}
-
-// Where in the section the refused record begins: the one cut short, the one of step 0, the first past the limit.
-fn offset(refused: u64, bytes: &[u8], count: u32) -> usize {
-    if refused == 5 {
-        return bytes.len() - bytes.len() % 6;
-    }
-    if refused == 6 {
-        return step_of_zero(bytes);
-    }
-    if refused == 7 {
-        return past_limit(count);
-    }
-    0
-}
-
-fn past_limit(count: u32) -> usize {
-    let taken = count as u64;
-    if taken <= State::LIMIT {
-        return (State::LIMIT - taken) as usize * 6;
-    }
-    0
-}
-
-fn step_of_zero(bytes: &[u8]) -> usize {
-    let mut at: usize = 0;
-    while 6 <= bytes.len() - at {
-        if (bytes[at] == 0) & (bytes[at + 1] == 0) & (bytes[at + 2] == 0) {
-            return at;
-        }
-        at += 6;
-    }
-    at
 }

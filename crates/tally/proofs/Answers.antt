@@ -1,4 +1,4 @@
--- One answer for each public contract: the start, a section, a record's kind.
+-- One answer for each public contract.
 -- Assumes nothing.
 use Prim.Native.Nat.{ℕ, _<_}
 use mathlib.Core.Bool.{Bool}
@@ -10,6 +10,10 @@ use Rattle.tally.specs.declared.Tally.{Tally}
 use Rattle.tally.specs.declared.Tallied.{Tallied}
 use Rattle.tally.specs.Kinds.{kindAt}
 use Rattle.tally.specs.Tally.{start, sectionOf}
+use Rattle.tally.specs.declared.Reached.{Reached}
+use Rattle.tally.specs.declared.Found.{Found}
+use Rattle.tally.specs.Walk as found
+use Rattle.tally.specs.Refused.{refusedAt}
 
 pub start-unique : Unique (λ (t : Tally). t ≡ start)
 start-unique = one-answer start
@@ -19,3 +23,15 @@ section-unique t bytes = one-answer (sectionOf t bytes)
 
 pub kind-unique : (before : Bool) (r : Record) → Unique (λ (k : ℕ). (k ≡ kindAt before r) × (k < 17))
 kind-unique before r x y p q = one-answer (kindAt before r) x y (p .0) (q .0)
+
+pub walk-unique : (limit : ℕ) → Unique (λ (s : Reached). s ≡ found.start limit)
+walk-unique t = one-answer (found.start t)
+
+pub next-unique : (s : Reached) (r : Record) → Unique (λ (n : Reached). n ≡ found.nextOf s r)
+next-unique s r = one-answer (found.nextOf s r)
+
+pub found-unique : (s : Reached) (r : Record) → Unique (λ (f : Found). f ≡ found.foundOf s r)
+found-unique s r = one-answer (found.foundOf s r)
+
+pub refused-unique : (refused : ℕ) (bytes : List ℕ) (count : ℕ) → Unique (λ (at : ℕ). at ≡ refusedAt refused bytes count)
+refused-unique n bs count = one-answer (refusedAt n bs count)

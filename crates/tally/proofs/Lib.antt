@@ -3,4 +3,6 @@ pub mod Ranging
 pub mod Folds
 pub mod Seventeen
 pub mod Cuts
+pub mod Walking
+pub mod Zero
 pub mod Answers

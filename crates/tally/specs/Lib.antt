@@ -1,3 +1,5 @@
 pub mod Kinds
 pub mod Tally
 pub mod Counts
+pub mod Walk
+pub mod Refused

@@ -1,7 +1,11 @@
 // How many records of each command a recording has, carried over its sections as the judge's state is: 01, "Commands and the 25
-// rules", first paragraph. A count's place in the tally is the kind that `kind_of` gives.
+// rules", first paragraph. A count's place in the tally is the kind that `kind_of` gives. And where a record stands.
+mod refused;
+mod walk;
+
 use records::Command;
 use records::Record;
+pub use refused::refused_at;
 ghost use mathlib.Core.Path.{_≡_};
 ghost use Prim.Native.Nat.{_+_, _≤_, _<_};
 ghost use mathlib.Core.Bool.{cond};
@@ -23,6 +27,25 @@ pub struct Tally {
 pub struct Tallied {
     pub refused: u64,
     pub tally: Tally,
+}
+
+// How far a walk over the records has come: the number and the edge of the last, the CKE level after it, and how many stand before the edge
+// `limit`.
+pub struct Reached {
+    pub number: u64,
+    pub edge: u64,
+    pub level: bool,
+    pub limit: u64,
+    pub before: u64,
+}
+
+// A record: the walk up to it, the CKE level before it, its kind, whether it enters power-down, and its fields.
+pub struct Found {
+    pub reached: Reached,
+    pub level: bool,
+    pub kind: usize,
+    pub down: bool,
+    pub fields: Record,
 }
 
 impl Tally {

@@ -1,9 +1,9 @@
--- `report::values::rows` is safe and ends: a turn for each row.
+-- `lot::values::rows` is safe and ends: a turn for each row.
 -- Assumes nothing.
 use Prim.Native.Nat.{_≤_, _-_}
 use borrow.Author.Needs.{needs}
-use Rattle.report.proofs.values.rows.Statement.{statement}
-use Rattle.report.proofs.values.rows.Tie as tie
+use Rattle.lot.proofs.values.rows.Statement.{statement}
+use Rattle.lot.proofs.values.rows.Tie as tie
 
 abbrev Inv-loop : tie.InvT-loop
 Inv-loop counts i₀ i = i ≤ 24

@@ -3,8 +3,8 @@
 use Prim.Native.Nat.{_≤_}
 use lib.ListN.{length}
 use borrow.Author.Needs.{needs}
-use Rattle.report.proofs.text.filled.Statement.{statement}
-use Rattle.report.proofs.text.filled.Tie as tie
+use Rattle.lot.proofs.text.filled.Statement.{statement}
+use Rattle.lot.proofs.text.filled.Tie as tie
 
 abbrev Inv-loop : tie.InvT-loop
 Inv-loop text n₀ n = n ≤ length text

@@ -3,8 +3,8 @@
 use native.Mathlib.Omega.{arith}
 use lib.ListN.{length-take}
 use borrow.Author.Needs.{needs}
-use Rattle.report.proofs.text.word.Statement.{statement}
-use Rattle.report.proofs.text.word.Tie as tie
+use Rattle.lot.proofs.text.word.Statement.{statement}
+use Rattle.lot.proofs.text.word.Tie as tie
 
 filled-requires : tie.Need-filled-requires
 filled-requires c κs = search needs

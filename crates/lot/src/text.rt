@@ -1,12 +1,9 @@
 // Words and numbers on standard output.
 use libc::STDOUT_FILENO;
-ghost use mathlib.Core.Path.{_≡_};
-ghost use mathlib.Core.Bool.{cond};
-ghost use lib.Dec.{eqb};
 ghost use Prim.Native.Nat.{_≤_};
 ghost use lib.ListN.{length};
 
-pub fn put(text: &[u8]) {
+pub(crate) fn put(text: &[u8]) {
     io::write_all(STDOUT_FILENO, text);
 }
 
@@ -46,21 +43,8 @@ fn filled(text: &[u8]) -> usize
     0
 }
 
-// A level of the glossary: x for any.
-pub(crate) fn level(l: u64) -> u8
-    ensures { λ r. ⌜ r ≡ cond (eqb l 0) 48 (cond (eqb l 1) 49 120) ⌝ }
-{
-    if l == 0 {
-        return b'0';
-    }
-    if l == 1 {
-        return b'1';
-    }
-    b'x'
-}
-
 // `name value`, and the line's end.
-pub fn value(name: &[u8], n: u64) {
+pub(crate) fn value(name: &[u8], n: u64) {
     put(name);
     say(b" ", n);
     put(b"\n");
