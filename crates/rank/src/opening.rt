@@ -12,24 +12,52 @@ use running::Wrote;
 use says::none;
 ghost use mathlib.Core.Path.{_≡_};
 ghost use Rattle.running.specs.Ends as ends;
+ghost use Rattle.running.specs.Marks as marks;
 
 pub fn fresh(level: bool, owed: u64) -> Rank
     ensures { λ r. ⌜ r ≡ ends.freshRank level owed ⌝ }
 {
-    let m = Mark {
+    let bank = fresh_bank();
+    let banks = [bank; 8];
+    let dues = [0u64; 8];
+    let shared = fresh_shared(level, owed);
+    Rank {
+        edge: 0,
+        count: 0,
+        first: none(),
+        banks: banks,
+        dues: dues,
+        shared: shared,
+    }
+}
+
+fn no_mark() -> Mark
+    ensures { λ r. ⌜ r ≡ marks.none ⌝ }
+{
+    Mark {
         at: 0,
         num: 0,
         need: 0,
-    };
-    let bank = Kept {
+    }
+}
+
+fn fresh_bank() -> Kept
+    ensures { λ r. ⌜ r ≡ marks.empty ⌝ }
+{
+    let m = no_mark();
+    Kept {
         acted: m,
         row: 0,
         read: m,
         wrote: m,
         shut: m,
-    };
-    let banks = [bank; 8];
-    let dues = [0u64; 8];
+    }
+}
+
+fn fresh_shared(level: bool, owed: u64) -> Shared
+    ensures { λ r. ⌜ r ≡ ends.freshShared level owed ⌝ }
+{
+    let m = no_mark();
     let acts = [m; 4];
     let rests = Rests {
         refreshed: m,
@@ -38,7 +66,7 @@ pub fn fresh(level: bool, owed: u64) -> Rank
         woke: m,
         slept: m,
     };
-    let shared = Shared {
+    Shared {
         now: 0,
         level: level,
         acts: acts,
@@ -76,13 +104,5 @@ pub fn fresh(level: bool, owed: u64) -> Rank
         },
         mrs: m,
         shut: m,
-    };
-    Rank {
-        edge: 0,
-        count: 0,
-        first: none(),
-        banks: banks,
-        dues: dues,
-        shared: shared,
     }
 }
