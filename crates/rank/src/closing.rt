@@ -14,6 +14,7 @@ use kept::since;
 use kept::status;
 use running::Debt;
 use running::Kept;
+use running::Late;
 use running::Rank;
 use running::Written;
 use says::clean_at;
@@ -23,12 +24,19 @@ use says::sooner;
 use says::soonest;
 use says::verdict_at;
 use says::why;
+ghost use mathlib.Core.Bool.{cond};
 ghost use mathlib.Core.Path.{_≡_};
+ghost use lib.Dec.{ltb};
+ghost use lib.ListN.{getD};
 ghost use Prim.Native.Nat.{_+_, _≤_};
 ghost use Rattle.answers.specs.Answer.{shownOf};
 ghost use Rattle.running.specs.Breaks.{statusOf};
+ghost use Rattle.running.specs.Deadlines as deadlines;
 ghost use Rattle.running.specs.Ends as ends;
+ghost use Rattle.running.specs.Late as late;
+ghost use Rattle.running.specs.Marks.{empty};
 ghost use Rattle.running.specs.Ranges as ranges;
+ghost use Rattle.running.specs.Said as said;
 
 // The rank at the edge; zeros where a sum could wrap, or the edge is out of bounds.
 pub fn end(chip: Chip, s: Rank, at: u64) -> End
@@ -94,22 +102,44 @@ fn verdict_of(chip: Chip, s: Rank, end: u64) -> Verdict
     if first.outcome != 0 {
         return first;
     }
+    told(next_late(chip, s, end + 1), s.count, end)
+}
+
+// The deadline that passes first; at hi or later where none passes before hi.
+fn next_late(chip: Chip, s: Rank, hi: u64) -> Late
+    requires { ⌜ (chip .trefi ≤ 70000000) × (s .edge ≤ ranges.lastEdge) ⌝ }
+    ensures { λ x. ⌜ x ≡ deadlines.nextLate chip s hi ⌝ }
+{
     let dues = s.dues;
-    let pick = soonest(dues, s.edge, end + 1);
-    let p = pick.bank as usize;
-    let x24 = late24(pick.at, s.banks[p].acted.num, chip.most);
+    let banks = s.banks;
+    let x24 = next24(chip.most, dues, banks, s.edge, hi);
     let x25 = late25(
         chip.trefi,
         s.shared.debt,
         s.shared.rests.refreshed.num,
         s.edge,
-        end + 1,
+        hi,
     );
-    let x = sooner(x24, x25);
+    sooner(x24, x25)
+}
+
+fn next24(most: u32, dues: [u64; 8], banks: [Kept; 8], edge: u64, hi: u64) -> Late
+    ensures { λ x. ⌜ x ≡ late.late24 (late.soonest dues edge hi 8 .at) (getD banks (late.soonest dues edge hi 8 .bank) empty .acted .num) most ⌝ }
+{
+    let pick = soonest(dues, edge, hi);
+    let p = pick.bank as usize;
+    late24(pick.at, banks[p].acted.num, most)
+}
+
+fn told(x: Late, count: u32, end: u64) -> Verdict
+    requires { ⌜ end ≤ ranges.lastEdge ⌝ }
+    ensures { λ r. ⌜ r ≡ cond (ltb (x .at) (end + 1)) (said.verdictAt (x .at) 0 (late.why x)) (said.cleanAt count end) ⌝ }
+    ensures { λ r. ⌜ r .edge ≤ ranges.lastEdge + 1 ⌝ }
+{
     if x.at < end + 1 {
         return verdict_at(x.at, 0, why(x));
     }
-    clean_at(s.count, end)
+    clean_at(count, end)
 }
 
 fn rest(v: Verdict, end: u64) -> u64
