@@ -165,16 +165,17 @@ fn owed_now(chip: Chip, d: Debt, now: u64, t: u64) -> u64
 fn banks_at(ks: [Kept; 8], t: u64) -> [Shown; 8]
     ensures { λ r. ⌜ r ≡ ends.banksAt ks t ⌝ }
 {
-    [
-        shown_at(ks[0], t),
-        shown_at(ks[1], t),
-        shown_at(ks[2], t),
-        shown_at(ks[3], t),
-        shown_at(ks[4], t),
-        shown_at(ks[5], t),
-        shown_at(ks[6], t),
-        shown_at(ks[7], t),
-    ]
+    let mut out = [Shown {
+        status: 0,
+        row: 0,
+        act: 0,
+    }; 8];
+    let mut i: usize = 0;
+    while i < 8 {
+        out[i] = shown_at(ks[i], t);
+        i += 1;
+    }
+    out
 }
 
 fn shown_at(k: Kept, t: u64) -> Shown
