@@ -41,14 +41,13 @@ fn counted(count: u32, edge: u64) -> bool
 fn banks_ok(banks: [Kept; 8]) -> bool
     ensures { λ r. ⌜ r ≡ ranges.banksOk banks 8 ⌝ }
 {
-    let b1 = true & bank_ok(banks[0]);
-    let b2 = b1 & bank_ok(banks[1]);
-    let b3 = b2 & bank_ok(banks[2]);
-    let b4 = b3 & bank_ok(banks[3]);
-    let b5 = b4 & bank_ok(banks[4]);
-    let b6 = b5 & bank_ok(banks[5]);
-    let b7 = b6 & bank_ok(banks[6]);
-    b7 & bank_ok(banks[7])
+    let mut ok = true;
+    let mut i: usize = 0;
+    while i < 8 {
+        ok = ok & bank_ok(banks[i]);
+        i += 1;
+    }
+    ok
 }
 
 fn bank_ok(k: Kept) -> bool
