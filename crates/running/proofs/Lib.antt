@@ -7,5 +7,4 @@ pub mod Asking
 pub mod Easing
 pub mod Running
 pub mod Turning
-pub mod Closing
 pub mod Ends

@@ -2,15 +2,15 @@
 -- Assumes nothing.
 use native.Mathlib.Omega.{arith}
 use mathlib.Core.Path.{_∙_}
-use borrow.Author.Tests.{eq-eqb}
+use borrow.Author.Tests.{eq-eqb, ne-eqb}
 use Rattle.running.specs.Ends.{verdictOf}
-use Rattle.running.proofs.Closing.{was-broken}
 use borrow.Author.Needs.{needs}
 use Rattle.rank.proofs.closing.verdict_of.Statement.{statement}
 use Rattle.rank.proofs.closing.verdict_of.Tie as tie
 
 returns : tie.Need-returns
-returns c = (was-broken _ _ _ (c .if1 .taken), omega arith)
+unfolding verdictOf
+returns c = (rw (ne-eqb _ _ (c .if1 .taken)), omega arith)
 
 add-next-late : tie.Need-add-next-late
 add-next-late c = search needs
