@@ -1,7 +1,10 @@
 -- One answer for each public contract: of what a record leaves behind, and of the clocks needed.
 -- Assumes nothing.
 use Prim.Native.Nat.{ℕ, _+_, _-_, max}
+use mathlib.Core.List.{List}
 use mathlib.Core.Path.{_≡_}
+use lib.ListN.{getD}
+use Rattle.laws.specs.Eight.{table}
 use Rattle.laws.proofs.Unique.{Unique, one-answer}
 use Rattle.records.specs.declared.Command.{Command}
 use Rattle.records.specs.declared.Record.{Record}
@@ -11,6 +14,7 @@ use Rattle.chip.specs.Latencies.{alOf, clOf, cwlOf, bOf}
 use Rattle.running.specs.declared.Kept.{Kept}
 use Rattle.running.specs.declared.Mark.{Mark}
 use Rattle.running.specs.declared.Shared.{Shared}
+use Rattle.running.specs.Marks.{empty}
 use Rattle.running.specs.Next.{mark, laterStart, markedNext, keptShut, shutBy}
 
 -- after_mrs, after_ref, after_pre, after_act, after_zq, after_srx: of one command each
@@ -25,6 +29,9 @@ later-start-unique m f n trp = one-answer (laterStart m f n trp)
 
 pub kept-shut-unique : (C : Chip) (e n : ℕ) (k : Kept) → Unique (λ (x : Kept). x ≡ keptShut C e n k)
 kept-shut-unique C e n k = one-answer (keptShut C e n k)
+
+pub shut-all-unique : (C : Chip) (e n : ℕ) (ks : List Kept) → Unique (λ (x : List Kept). x ≡ table (λ b. keptShut C e n (getD ks b empty)))
+shut-all-unique C e n ks = one-answer (table (λ b. keptShut C e n (getD ks b empty)))
 
 pub shut-by-unique : (k : Kept) (f n need : ℕ) → Unique (λ (x : Kept). x ≡ shutBy k f n need)
 shut-by-unique k f n need = one-answer (shutBy k f n need)

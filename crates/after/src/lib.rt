@@ -12,6 +12,7 @@ pub use after::after_zq;
 pub use after::later_start;
 pub use after::mark;
 pub use bank::kept_shut;
+pub use bank::shut_all;
 pub use bank::shut_by;
 pub use needs::most_of;
 pub use needs::need4;

@@ -56,7 +56,7 @@ impl State {
         Taken {
             refused: 0,
             state: holding(self.header, n),
-            verdict: rank::so_far(n),
+            verdict: still::so_far(n),
         }
     }
 
@@ -80,7 +80,7 @@ fn in_range(s: State) -> bool
     ensures { λ r. ⌜ r ≡ ranges.inRange s ⌝ }
 {
     let interval = s.header.trefi().clocks;
-    ((s.header.bin <= 3) & (1 <= interval)) & rank::in_range(s.rank)
+    ((s.header.bin <= 3) & (1 <= interval)) & still::in_range(s.rank)
 }
 
 fn holding(h: Header, n: Rank) -> State
@@ -92,7 +92,7 @@ fn holding(h: Header, n: Rank) -> State
 fn start(h: Header) -> State
     ensures { λ r. ⌜ r ≡ calls.startOf h ⌝ }
 {
-    holding(h, rank::fresh(true, 8))
+    holding(h, still::fresh(true, 8))
 }
 
 fn zeros() -> State
@@ -105,7 +105,7 @@ fn zeros() -> State
         hot: false,
         period: Ps { ps: 0 },
     };
-    holding(h, rank::fresh(false, 0))
+    holding(h, still::fresh(false, 0))
 }
 
 fn refuse(n: u64, s: State) -> Taken
@@ -121,7 +121,7 @@ fn refuse(n: u64, s: State) -> Taken
 fn not_closed(n: u64) -> Closed
     ensures { λ r. ⌜ r ≡ calls.notClosed n ⌝ }
 {
-    let e = rank::no_end();
+    let e = still::no_end();
     Closed { refused: n, end: e }
 }
 

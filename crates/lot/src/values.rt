@@ -172,7 +172,6 @@ pub(crate) fn listed(f: Found, file: u64, at: u64, bytes: u64) {
     value(b"list_file", file);
     value(b"list_byte", at);
     value(b"list_edge", f.reached.edge);
-    named(f.kind);
     pins(f);
     let r = f.fields;
     value(b"list_bank", r.bank);
@@ -180,14 +179,11 @@ pub(crate) fn listed(f: Found, file: u64, at: u64, bytes: u64) {
     hex(b"list_bytes ", bytes, 12);
 }
 
-fn named(kind: usize) {
-    let w = glossary::row_of(kind as u64);
-    let name = w.name;
-    text(b"list_command ", &name);
-}
-
 fn pins(f: Found) {
     let r = f.fields;
+    let w = glossary::row_of(f.kind as u64);
+    let name = w.name;
+    text(b"list_command ", &name);
     value(b"list_cke_before", bit(f.level));
     value(b"list_cke", bit(r.cke));
     value(b"list_pins", r.pins);

@@ -1,29 +1,27 @@
 // A rank's end: the verdict, the banks, the registers and the debt at an edge.
 use crate::deadlines::late25;
-use crate::ranges::in_range;
-use crate::ranges::is_small;
 use crate::shared::awake;
 use crate::shared::whole;
 use answers::End;
-use answers::Register;
 use answers::Shown;
 use answers::Verdict;
 use chip::Chip;
-use chip::Regs;
 use kept::since;
 use kept::status;
 use running::Debt;
 use running::Kept;
 use running::Late;
 use running::Rank;
-use running::Written;
 use says::clean_at;
 use says::late24;
-use says::none;
 use says::sooner;
 use says::soonest;
 use says::verdict_at;
 use says::why;
+use still::in_range;
+use still::is_small;
+use still::no_end;
+use still::registers_of;
 ghost use mathlib.Core.Bool.{cond};
 ghost use mathlib.Core.Path.{_≡_};
 ghost use lib.Dec.{ltb};
@@ -52,28 +50,6 @@ pub fn end(chip: Chip, s: Rank, at: u64) -> End
         return no_end();
     }
     closed(chip, s, at)
-}
-
-pub fn no_end() -> End
-    ensures { λ r. ⌜ r ≡ ends.noEnd ⌝ }
-{
-    let b = Shown {
-        status: 0,
-        row: 0,
-        act: 0,
-    };
-    let g = Register {
-        written: false,
-        code: 0,
-    };
-    let banks = [b; 8];
-    let registers = [g; 4];
-    End {
-        verdict: none(),
-        banks: banks,
-        registers: registers,
-        owed: 0,
-    }
 }
 
 fn closed(chip: Chip, s: Rank, end: u64) -> End
@@ -182,27 +158,4 @@ fn shown_at(k: Kept, t: u64) -> Shown
     ensures { λ r. ⌜ r ≡ shownOf (statusOf k t) ⌝ }
 {
     answers::show(status(k, t))
-}
-
-fn registers_of(g: Regs, w: Written) -> [Register; 4]
-    ensures { λ r. ⌜ r ≡ ends.registersOf g w ⌝ }
-{
-    [
-        Register {
-            written: w.w0,
-            code: g.mr0,
-        },
-        Register {
-            written: w.w1,
-            code: g.mr1,
-        },
-        Register {
-            written: w.w2,
-            code: g.mr2,
-        },
-        Register {
-            written: w.w3,
-            code: g.mr3,
-        },
-    ]
 }

@@ -16,6 +16,7 @@ use crate::turn::turn;
 use after::after_act;
 use after::after_pre;
 use after::kept_shut;
+use after::shut_all;
 use chip::Chip;
 use kept::barred;
 use kept::fine_act;
@@ -172,21 +173,6 @@ pub(crate) fn record_at(bytes: &[u8], at: usize) -> Record
         bytes[at + 4],
         bytes[at + 5],
     )
-}
-
-fn shut_all(chip: Chip, e: u64, n: u32, ks: [Kept; 8]) -> [Kept; 8]
-    ensures { λ x. ⌜ x ≡ table (λ b. next.keptShut chip e n (getD ks b empty)) ⌝ }
-{
-    [
-        kept_shut(chip, e, n, ks[0]),
-        kept_shut(chip, e, n, ks[1]),
-        kept_shut(chip, e, n, ks[2]),
-        kept_shut(chip, e, n, ks[3]),
-        kept_shut(chip, e, n, ks[4]),
-        kept_shut(chip, e, n, ks[5]),
-        kept_shut(chip, e, n, ks[6]),
-        kept_shut(chip, e, n, ks[7]),
-    ]
 }
 
 fn dues_of(chip: Chip, ks: [Kept; 8]) -> [u64; 8]

@@ -1,4 +1,4 @@
-// One rank of the running judge: its beginning, the loop over a section's records, and its end. What adds clocks to an edge stays in here,
+// One rank of the running judge: the loop over a section's records, and its end. What adds clocks to an edge stays in here,
 // since it asks ranges of its callers; `take` and `end` look at the ranges themselves, once a section, and ask nothing.
 mod bank;
 mod closing;
@@ -6,15 +6,9 @@ mod deadlines;
 mod easy;
 mod fold;
 mod needs;
-mod opening;
-mod ranges;
 mod shared;
 mod taking;
 mod turn;
 
 pub use closing::end;
-pub use closing::no_end;
-pub use opening::fresh;
-pub use ranges::in_range;
-pub use taking::so_far;
 pub use taking::take;

@@ -1,14 +1,11 @@
-// A section's records, and the verdict so far.
+// A section's records.
 use crate::fold::fold;
-use crate::ranges::in_range;
-use crate::ranges::is_small;
-use answers::Verdict;
 use chip::Chip;
 use running::Rank;
-use says::clean_at;
+use still::in_range;
+use still::is_small;
 ghost use mathlib.Core.Path.{_≡_};
 ghost use Rattle.running.specs.Ends as ends;
-ghost use Rattle.running.specs.Step as step;
 
 // The rank after the records; as it was, where a sum could wrap.
 pub fn take(chip: Chip, s: Rank, bytes: &[u8]) -> Rank
@@ -27,15 +24,4 @@ pub fn take(chip: Chip, s: Rank, bytes: &[u8]) -> Rank
         return s;
     }
     fold(chip, s, bytes)
-}
-
-// The verdict as if closed at the last record's edge so far.
-pub fn so_far(s: Rank) -> Verdict
-    ensures { λ r. ⌜ r ≡ step.soFar s ⌝ }
-{
-    let first = s.first;
-    if first.outcome == 0 {
-        return clean_at(s.count, s.edge);
-    }
-    first
 }

@@ -1,11 +1,14 @@
--- A lot: sections in turn through the judge and the tally. Where the judge takes each of them, both speak of one recording, the uncut one.
+-- A lot: sections in turn through the judge and the tally. Where the judge takes each of them, both speak of one recording, the uncut one, and a
+-- walk over its records finds them where looking back does.
 -- Assumes nothing.
-use Prim.Native.Nat.{ℕ, _+_, _/_, _≤_}
+use Prim.Native.Nat.{ℕ, _+_, _*_, _/_, _%_, _≤_}
 use native.Mathlib.Omega.{arith}
-use mathlib.Core.List.{List, [], _∷_, _++_}
+use mathlib.Core.List.{List, [], _∷_, _++_, reverseAux}
 use mathlib.Core.Path.{_≡_, refl, sym, ap, _∙_, subst}
 use lib.ListN.{length, length-append}
 use borrow.Author.Tests.{eq-eqb}
+use Rattle.records.specs.declared.Record.{Record}
+use Rattle.records.specs.Record.{records}
 use Rattle.header.specs.declared.Header.{Header}
 use Rattle.header.specs.declared.Parsed.the-variants.{Taken}
 use Rattle.header.specs.Bytes.{parsedOf}
@@ -13,7 +16,10 @@ use Rattle.chip.specs.Chip.{chipOf}
 use Rattle.judge.specs.declared.State.{State}
 use Rattle.running.specs.Ranges.{limit}
 use Rattle.judge.specs.Calls.{openOf, sectionOf}
+use Rattle.rules.specs.Past.{Past, edge, recording}
 use Rattle.rules.proofs.Facts.{Sound}
+use Rattle.rules.proofs.Cutting.{length-records, number-all}
+use Rattle.sections.proofs.Never.{Short, short}
 use Rattle.sections.proofs.Openings.{taken-sound}
 use Rattle.sections.proofs.Section.{fits, Stands, refused-is}
 use Rattle.sections.specs.Sections.{run as judgeRun, taken as judgeTaken, Judges}
@@ -21,7 +27,9 @@ use Rattle.sections.proofs.Sections.{stands, stands-more, sections-judg
 use Rattle.tally.specs.declared.Tally.{Tally}
 use Rattle.tally.specs.Tally.{start}
 use Rattle.tally.specs.Counts.{total}
-use Rattle.tally.proofs.Cuts.{run, Tells, sections-tallied, start-stands, Sixes, uncut, all-taken}
+use Rattle.tally.specs.Walk.{start as begin, reachedOf}
+use Rattle.tally.proofs.Walking.{Small, walk, walk-is}
+use Rattle.tally.proofs.Cuts.{run, Tells, sections-tallied, start-stands, Sixes, uncut, uncut-sixes, all-taken}
 
 -- the judge takes each section in its turn
 abbrev pub AllTaken : State → List (List ℕ) → Type 0
@@ -40,16 +48,35 @@ whole h S (xs ∷ xss) bs s a m t =
     (omega (arith, f .room, f .sixes, a .sixes)) (t .1) in
     ((f .sixes, w .0), omega (arith, w .1, length-append xs (uncut xss)), rw (eq-eqb _ _ (t .0)) (ap (λ ys. xs ++ ys) (w .2)))
 
+-- no edge lies further than its records' steps reach
+edge-most : (rs : List Record) (p : Past) → Short rs → edge (reverseAux rs p) ≤ edge p + 16777216 * length rs
+edge-most [] p h = omega arith
+edge-most (r ∷ rs) p h = omega (arith, h .0, edge-most rs (r ∷ p) (h .1))
+
+small : (bs : List ℕ) → length bs % 6 ≡ 0 → length bs / 6 ≤ limit → Small (recording bs)
+small bs six most =
+    let many = length-records bs six in
+    record {
+      count = omega (arith, number-all (records bs) [], many);
+      last = omega (arith, edge-most (records bs) [] (short bs), many);
+    }
+
 -- the judge's state and the tally, of the recording of the bytes bs
 pub record OneLot (h : Header) (bs : List ℕ) (s : State) (t : Tally) : Type 0 where
   pub judged : Judges h bs s
   pub counted : Tells bs t
   pub all : total (t .counts) ≡ s .rank .count
+  pub listed : (limit : ℕ) → walk limit (begin limit) (records bs) ≡ reachedOf limit (recording bs)
 
 pub lot-is-one :
     (header : List ℕ) (h : Header) → parsedOf header ≡ Taken h → (xss : List (List ℕ)) → AllTaken (openOf header .state) xss
     → OneLot h (uncut xss) (judgeRun (openOf header .state) xss) (run start xss)
-lot-is-one header h e xss t = record { judged = judged; counted = counted; all = omega (arith, counted .sum, counted .number-is, judged .counted) }
+lot-is-one header h e xss t = record {
+  judged = judged;
+  counted = counted;
+  all = omega (arith, counted .sum, counted .number-is, judged .counted);
+  listed = λ limit. walk-is limit (records (uncut xss)) [] (small (uncut xss) (uncut-sixes xss (all-in .0)) (omega (arith, all-in .1)));
+}
   where
     all-in : Sixes xss × ((0 + length (uncut xss)) / 6 ≤ limit) × (judgeTaken (openOf header .state) xss ≡ uncut xss)
     all-in = whole h (taken-sound header h e) xss [] (openOf header .state) (stands header h e []) (omega arith) t

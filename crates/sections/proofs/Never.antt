@@ -54,7 +54,7 @@ in-range s bin some t = rw (le-leb (s .header .bin) 3 bin, le-leb 1 (tREFI (s .h
 -- ── Records ─────────────────────────────────────────────────────────────────────────────────
 
 -- a step has 24 bits
-abbrev Short : List Record → Type 0
+abbrev pub Short : List Record → Type 0
 Short [] = Unit {0}
 Short (r ∷ rs) = (r .step ≤ 16777216) × Short rs
 
@@ -62,7 +62,7 @@ step-short : (w : ℕ) → fieldsOf w .step ≤ 16777216
 unfolding fieldsOf
 step-short w = omega arith
 
-short : (bs : List ℕ) → Short (records bs)
+pub short : (bs : List ℕ) → Short (records bs)
 short [] = tt
 short (_ ∷ []) = tt
 short (_ ∷ _ ∷ []) = tt

@@ -184,7 +184,7 @@ abbrev pub uncut : List (List ℕ) → List ℕ
 uncut [] = []
 uncut (xs ∷ xss) = xs ++ uncut xss
 
-uncut-sixes : (xss : List (List ℕ)) → Sixes xss → length (uncut xss) % 6 ≡ 0
+pub uncut-sixes : (xss : List (List ℕ)) → Sixes xss → length (uncut xss) % 6 ≡ 0
 uncut-sixes [] h = refl
 uncut-sixes (xs ∷ xss) h = omega (arith, length-append xs (uncut xss), h .0, uncut-sixes xss (h .1))
 

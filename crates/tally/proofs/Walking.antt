@@ -1,5 +1,4 @@
--- A walk over the records knows of each what looking back over the recording says, as long as no number passes 64 bits; a recording that the
--- judge takes never does.
+-- A walk over the records knows of each what looking back over the recording says, as long as no number passes 64 bits.
 -- Assumes nothing.
 use Prim.Native.Nat.{ℕ, _+_, _*_, _%_, _≤_, _<_}
 use native.Mathlib.Omega.{arith}

@@ -2,8 +2,8 @@
 -- Assumes nothing.
 use Rattle.running.specs.Ends.{freshRank}
 use borrow.Author.Needs.{needs}
-use Rattle.rank.proofs.opening.fresh.Statement.{statement}
-use Rattle.rank.proofs.opening.fresh.Tie as tie
+use Rattle.still.proofs.opening.fresh.Statement.{statement}
+use Rattle.still.proofs.opening.fresh.Tie as tie
 
 fresh-bank-requires : tie.Need-fresh-bank-requires
 fresh-bank-requires c κs = search needs

@@ -2,8 +2,8 @@
 -- Assumes nothing.
 use Rattle.laws.specs.Eight.{table}
 use borrow.Author.Needs.{needs}
-use Rattle.rank.proofs.fold.shut_all.Statement.{statement}
-use Rattle.rank.proofs.fold.shut_all.Tie as tie
+use Rattle.after.proofs.bank.shut_all.Statement.{statement}
+use Rattle.after.proofs.bank.shut_all.Tie as tie
 
 array-copy-out-kept-shut : tie.Need-array-copy-out-kept-shut
 array-copy-out-kept-shut c = search needs

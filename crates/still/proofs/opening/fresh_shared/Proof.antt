@@ -2,8 +2,8 @@
 -- Assumes nothing.
 use Rattle.running.specs.Ends.{freshShared}
 use borrow.Author.Needs.{needs}
-use Rattle.rank.proofs.opening.fresh_shared.Statement.{statement}
-use Rattle.rank.proofs.opening.fresh_shared.Tie as tie
+use Rattle.still.proofs.opening.fresh_shared.Statement.{statement}
+use Rattle.still.proofs.opening.fresh_shared.Tie as tie
 
 no-mark-requires : tie.Need-no-mark-requires
 no-mark-requires c κs = search needs

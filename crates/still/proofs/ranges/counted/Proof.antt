@@ -2,8 +2,8 @@
 -- Assumes nothing.
 use borrow.Author.Tests.{lt-ltb, le-ltb, le-leb, lt-leb}
 use borrow.Author.Needs.{needs}
-use Rattle.rank.proofs.ranges.counted.Statement.{statement}
-use Rattle.rank.proofs.ranges.counted.Tie as tie
+use Rattle.still.proofs.ranges.counted.Statement.{statement}
+use Rattle.still.proofs.ranges.counted.Tie as tie
 
 returns : tie.Need-returns
 returns c = simp (lt-ltb _ _ (c .if1 .taken), lt-leb _ _ (c .if1 .taken))

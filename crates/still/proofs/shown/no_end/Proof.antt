@@ -2,8 +2,8 @@
 -- Assumes nothing.
 use Rattle.running.specs.Ends.{noEnd}
 use borrow.Author.Needs.{needs}
-use Rattle.rank.proofs.closing.no_end.Statement.{statement}
-use Rattle.rank.proofs.closing.no_end.Tie as tie
+use Rattle.still.proofs.shown.no_end.Statement.{statement}
+use Rattle.still.proofs.shown.no_end.Tie as tie
 
 none-requires : tie.Need-none-requires
 none-requires c κs = search needs

@@ -14,7 +14,7 @@ pub fn in_range(s: Rank) -> bool
             & ((s.first.edge <= 17592186044416) & banks_ok(banks)))
 }
 
-pub(crate) fn is_small(chip: Chip) -> bool
+pub fn is_small(chip: Chip) -> bool
     ensures { λ r. ⌜ r ≡ ranges.isSmall chip ⌝ }
 {
     (chip.trcd <= 70000000)

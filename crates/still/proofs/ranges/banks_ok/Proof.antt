@@ -10,8 +10,8 @@ use borrow.Author.Needs.{needs}
 use Rattle.running.specs.declared.Kept.{Kept}
 use Rattle.running.specs.Marks.{empty}
 use Rattle.running.specs.Ranges.{bankOk, banksOk}
-use Rattle.rank.proofs.ranges.banks_ok.Statement.{statement}
-use Rattle.rank.proofs.ranges.banks_ok.Tie as tie
+use Rattle.still.proofs.ranges.banks_ok.Statement.{statement}
+use Rattle.still.proofs.ranges.banks_ok.Tie as tie
 
 abbrev Inv-loop : tie.InvT-loop
 Inv-loop banks ok₀ i₀ ok i = (i ≤ 8) × (ok ≡ banksOk banks i)

@@ -3,8 +3,8 @@
 use borrow.Author.Tests.{eq-eqb, ne-eqb}
 use Rattle.running.specs.Step.{soFar}
 use borrow.Author.Needs.{needs}
-use Rattle.rank.proofs.taking.so_far.Statement.{statement}
-use Rattle.rank.proofs.taking.so_far.Tie as tie
+use Rattle.still.proofs.shown.so_far.Statement.{statement}
+use Rattle.still.proofs.shown.so_far.Tie as tie
 
 clean-at-requires : tie.Need-clean-at-requires
 clean-at-requires c κs = search needs

@@ -2,8 +2,8 @@
 -- Assumes nothing.
 use Rattle.running.specs.Ranges.{isSmall}
 use mathlib.Core.Path.{refl}
-use Rattle.rank.proofs.ranges.is_small.Statement.{statement}
-use Rattle.rank.proofs.ranges.is_small.Tie as tie
+use Rattle.still.proofs.ranges.is_small.Statement.{statement}
+use Rattle.still.proofs.ranges.is_small.Tie as tie
 
 returns : tie.Need-returns
 unfolding isSmall

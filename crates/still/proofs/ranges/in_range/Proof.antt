@@ -2,8 +2,8 @@
 -- Assumes nothing.
 use Rattle.running.specs.Ranges.{rankInRange}
 use borrow.Author.Needs.{needs}
-use Rattle.rank.proofs.ranges.in_range.Statement.{statement}
-use Rattle.rank.proofs.ranges.in_range.Tie as tie
+use Rattle.still.proofs.ranges.in_range.Statement.{statement}
+use Rattle.still.proofs.ranges.in_range.Tie as tie
 
 counted-requires : tie.Need-counted-requires
 counted-requires c κs = search needs

@@ -1,8 +1,8 @@
 -- No record yet.
 -- Assumes nothing.
 use borrow.Author.Needs.{needs}
-use Rattle.rank.proofs.opening.fresh_bank.Statement.{statement}
-use Rattle.rank.proofs.opening.fresh_bank.Tie as tie
+use Rattle.still.proofs.opening.fresh_bank.Statement.{statement}
+use Rattle.still.proofs.opening.fresh_bank.Tie as tie
 
 no-mark-requires : tie.Need-no-mark-requires
 no-mark-requires c κs = search needs
