@@ -180,11 +180,14 @@ fn dues_of(chip: Chip, ks: [Kept; 8]) -> [u64; 8]
     requires { ⌜ NearBanks ks ⌝ }
     ensures { λ x. ⌜ x ≡ table (λ b. next.due chip (getD ks b empty)) ⌝ }
 {
-    let mut out = [0u64; 8];
-    let mut i: usize = 0;
-    while i < 8 {
-        out[i] = due(chip, ks[i]);
-        i += 1;
-    }
-    out
+    [
+        due(chip, ks[0]),
+        due(chip, ks[1]),
+        due(chip, ks[2]),
+        due(chip, ks[3]),
+        due(chip, ks[4]),
+        due(chip, ks[5]),
+        due(chip, ks[6]),
+        due(chip, ks[7]),
+    ]
 }

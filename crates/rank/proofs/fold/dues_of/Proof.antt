@@ -1,72 +1,81 @@
 -- The eight banks in turn.
 -- Assumes nothing.
-use Prim.Native.Nat.{ℕ, _≤_, _-_}
-use mathlib.Core.List.{List}
-use mathlib.Core.Path.{_≡_}
-use lib.ListN.{getD}
+use Rattle.laws.specs.Eight.{table}
+use native.Mathlib.Omega.{arith}
 use borrow.Author.Needs.{needs}
-use Rattle.chip.specs.declared.Chip.{Chip}
-use Rattle.running.specs.declared.Kept.{Kept}
-use Rattle.running.specs.Marks.{empty}
-use Rattle.running.specs.Next.{due}
-use Rattle.rank.proofs.Filling.{filled, fill-start, fill-turn, fill-end}
 use Rattle.rank.proofs.fold.dues_of.Statement.{statement}
 use Rattle.rank.proofs.fold.dues_of.Tie as tie
 
-abbrev dueAt : Chip → List Kept → (b : ℕ) → ℕ
-dueAt C ks b = due C (getD ks b empty)
-
-abbrev Inv-loop : tie.InvT-loop
-Inv-loop chip ks out₀ i₀ out i = (i ≤ 8) × (out ≡ filled (dueAt chip ks) 0 i)
-
-abbrev μ-loop : tie.MeasureT-loop
-μ-loop chip ks out₀ i₀ out i = 8 - i
-
-loop-holds : tie.Need-loop-holds Inv-loop μ-loop
-loop-holds c = (search needs, fill-start _ _)
-
-mul-due : tie.Need-mul-due Inv-loop μ-loop
-mul-due c = search needs
-
-array-copy-out-due : tie.Need-array-copy-out-due Inv-loop μ-loop
+array-copy-out-due : tie.Need-array-copy-out-due
 array-copy-out-due c = search needs
 
-due-requires : tie.Need-due-requires Inv-loop μ-loop
-due-requires c κs =
-    let l = c .before .before .loop in
-    (c .before .before .before .pre .0, c .before .before .before .pre .1 (l .i) (search needs))
+due-requires : tie.Need-due-requires
+due-requires c κs = (c .before .pre .0, c .before .pre .1 0 (omega arith))
 
-mul-out : tie.Need-mul-out Inv-loop μ-loop
-mul-out c = search needs
+array-copy-out-due-2 : tie.Need-array-copy-out-due-2
+array-copy-out-due-2 c = search needs
 
-array-write-out : tie.Need-array-write-out Inv-loop μ-loop
-array-write-out c = search needs
+due-requires-2 : tie.Need-due-requires-2
+due-requires-2 c κs = (c .before .before .before .pre .0, c .before .before .before .pre .1 1 (omega arith))
 
-add-i : tie.Need-add-i Inv-loop μ-loop
-add-i c = search needs
+array-copy-out-due-3 : tie.Need-array-copy-out-due-3
+array-copy-out-due-3 c = search needs
 
-loop-less : tie.Need-loop-less Inv-loop μ-loop
-loop-less c = search needs
+due-requires-3 : tie.Need-due-requires-3
+due-requires-3 c κs = (c .before .before .before .before .before .pre .0, c .before .before .before .before .before .pre .1 2 (omega arith))
 
-loop-again : tie.Need-loop-again Inv-loop μ-loop
-loop-again c = let l = c .before .before .before .loop in (search needs, fill-turn _ _ (l .i) (search needs) _ (l .inv .1) _ (c .due .ensures))
+array-copy-out-due-4 : tie.Need-array-copy-out-due-4
+array-copy-out-due-4 c = search needs
 
-returns : tie.Need-returns Inv-loop μ-loop
-returns c = let l = c .before .loop in fill-end _ _ (l .i) (l .inv .0) (search needs) _ (l .inv .1)
+due-requires-4 : tie.Need-due-requires-4
+due-requires-4 c κs = (c .before .before .before .before .before .before .before .pre .0, c .before .before .before .before .before .before .before .pre .1 3 (omega arith))
+
+array-copy-out-due-5 : tie.Need-array-copy-out-due-5
+array-copy-out-due-5 c = search needs
+
+due-requires-5 : tie.Need-due-requires-5
+due-requires-5 c κs = (c .before .before .before .before .before .before .before .before .before .pre .0, c .before .before .before .before .before .before .before .before .before .pre .1 4 (omega arith))
+
+array-copy-out-due-6 : tie.Need-array-copy-out-due-6
+array-copy-out-due-6 c = search needs
+
+due-requires-6 : tie.Need-due-requires-6
+due-requires-6 c κs = (c .before .before .before .before .before .before .before .before .before .before .before .pre .0, c .before .before .before .before .before .before .before .before .before .before .before .pre .1 5 (omega arith))
+
+array-copy-out-due-7 : tie.Need-array-copy-out-due-7
+array-copy-out-due-7 c = search needs
+
+due-requires-7 : tie.Need-due-requires-7
+due-requires-7 c κs = (c .before .before .before .before .before .before .before .before .before .before .before .before .before .pre .0, c .before .before .before .before .before .before .before .before .before .before .before .before .before .pre .1 6 (omega arith))
+
+array-copy-out-due-8 : tie.Need-array-copy-out-due-8
+array-copy-out-due-8 c = search needs
+
+due-requires-8 : tie.Need-due-requires-8
+due-requires-8 c κs = (c .before .before .before .before .before .before .before .before .before .before .before .before .before .before .before .pre .0, c .before .before .before .before .before .before .before .before .before .before .before .before .before .before .before .pre .1 7 (omega arith))
+
+returns : tie.Need-returns
+unfolding table
+returns c = simp (c .due8 .ensures, c .before .before .due7 .ensures, c .before .before .before .before .due6 .ensures, c .before .before .before .before .before .before .due5 .ensures, c .before .before .before .before .before .before .before .before .due4 .ensures, c .before .before .before .before .before .before .before .before .before .before .due3 .ensures, c .before .before .before .before .before .before .before .before .before .before .before .before .due2 .ensures, c .before .before .before .before .before .before .before .before .before .before .before .before .before .before .due .ensures)
 
 pub dues-of-spec : {M : Type 1} → statement M
 dues-of-spec =
     tie.close
     (tie.spec
-    Inv-loop
-    μ-loop
-    loop-holds
-    mul-due
     array-copy-out-due
     due-requires
-    mul-out
-    array-write-out
-    add-i
-    loop-less
-    loop-again
+    array-copy-out-due-2
+    due-requires-2
+    array-copy-out-due-3
+    due-requires-3
+    array-copy-out-due-4
+    due-requires-4
+    array-copy-out-due-5
+    due-requires-5
+    array-copy-out-due-6
+    due-requires-6
+    array-copy-out-due-7
+    due-requires-7
+    array-copy-out-due-8
+    due-requires-8
     returns)
