@@ -11,9 +11,6 @@ ghost use Rattle.running.specs.Ends as ends;
 pub fn take(chip: Chip, s: Rank, bytes: &[u8]) -> Rank
     ensures { λ r. ⌜ r ≡ ends.takenOf chip s (now (bytes .entry)) ⌝ }
 {
-    if !is_small(chip) {
-        return s;
-    }
     if !in_range(s) {
         return s;
     }
@@ -21,6 +18,9 @@ pub fn take(chip: Chip, s: Rank, bytes: &[u8]) -> Rank
         return s;
     }
     if 1048576 < s.count as u64 + (bytes.len() / 6) as u64 {
+        return s;
+    }
+    if !is_small(chip) {
         return s;
     }
     fold(chip, s, bytes)
