@@ -1,16 +1,21 @@
 -- What a call answers, by the way that it takes through the code.
 -- Assumes nothing.
-use Prim.Native.Nat.{ℕ, zero, suc, _<_, _≤_}
+use Prim.Native.Nat.{ℕ, zero, suc, _%_, _<_, _≤_}
 use native.Mathlib.Omega.{arith}
 use mathlib.Core.Path.{_≡_, refl, ap, _∙_}
 use mathlib.Core.Bool.{true, or-true}
 use mathlib.Core.List.{List, _++_}
 use borrow.Author.Tests.{lt-ltb, le-ltb, ne-eqb}
+use lib.Bits.{bitXor, xor-lt}
 use lib.Dec.{ltb}
 use lib.ListN.{length, take, drop}
 use Rattle.laws.proofs.Lent.{refuses, writes}
-use Rattle.bursts.specs.Burst.{wordsFrom, orderOf, gives10, codeOf, Ordered}
+use Rattle.bursts.specs.Burst.{wordOf, wordsFrom, orderOf, gives10, codeOf, Ordered}
 use Rattle.bursts.specs.Parts.{Put}
+
+-- the xor of two bits is a bit
+pub bits-differ : (a b : ℕ) → bitXor (a % 2) (b % 2) < 2
+bits-differ a b = xor-lt 1 (a % 2) (b % 2) (omega arith) (omega arith)
 
 length-words : (word : ℕ → ℕ) (i n : ℕ) → length (wordsFrom word i n) ≡ n
 length-words word i zero = refl
@@ -43,8 +48,9 @@ module _ (n start kind direction : ℕ) (before : List ℕ) where
 
   -- a burst of a known length m, whose words are put into the buffer
   pub put-words : {words after : List ℕ} {r : ℕ} (m : ℕ) → n ≡ m → gives10 m start ≡ ltb 7 start → start ≤ 7
-      → words ≡ orderOf m start kind direction → Put words before r after → Ordered n start kind direction before r after
-  unfolding codeOf
+      → words ≡ wordsFrom (wordOf n start kind direction) 0 m → Put words before r after → Ordered n start kind direction before r after
+  unfolding codeOf orderOf
   put-words {words} m i known h e p =
-      let fits : length words ≡ m = ap length e ∙ length-order m start kind direction in
-      rw (i, known ∙ le-ltb 7 start h, ← e, ← fits) p
+      let all : words ≡ orderOf m start kind direction = e ∙ rw i in
+      let fits : length words ≡ m = ap length all ∙ length-order m start kind direction in
+      rw (i, known ∙ le-ltb 7 start h, ← all, ← fits) p

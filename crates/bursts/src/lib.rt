@@ -1,76 +1,9 @@
-// Burst order: which word of a burst comes when (01, "Registers", last paragraph). The orders are
-// kept as two tables, one to a length, and a call copies a row into the lent buffer.
+// Burst order: which word of a burst comes when (01, "Registers", last paragraph). No order is stored: each word is worked
+// out from the start and its position, eight at once, and a call copies as many as the burst has into the lent buffer.
 ghost use mathlib.Core.Path.{_≡_};
-ghost use Prim.Native.Nat.{_<_};
-ghost use Rattle.bursts.specs.Burst.{orderOf, Ordered};
-ghost use Rattle.bursts.specs.Parts.{rowOf, Put};
-
-// The first row of each group of a table. A group has a row for each start, 0 to 7.
-const SEQUENTIAL: usize = 0;
-
-const INTERLEAVE: usize = 8;
-
-const WRITE: usize = 16;
-
-const EIGHT: [[u8; 8]; 24] = [
-    // read, sequential
-    [0, 1, 2, 3, 4, 5, 6, 7],
-    [1, 2, 3, 0, 5, 6, 7, 4],
-    [2, 3, 0, 1, 6, 7, 4, 5],
-    [3, 0, 1, 2, 7, 4, 5, 6],
-    [4, 5, 6, 7, 0, 1, 2, 3],
-    [5, 6, 7, 4, 1, 2, 3, 0],
-    [6, 7, 4, 5, 2, 3, 0, 1],
-    [7, 4, 5, 6, 3, 0, 1, 2],
-    // read, interleave
-    [0, 1, 2, 3, 4, 5, 6, 7],
-    [1, 0, 3, 2, 5, 4, 7, 6],
-    [2, 3, 0, 1, 6, 7, 4, 5],
-    [3, 2, 1, 0, 7, 6, 5, 4],
-    [4, 5, 6, 7, 0, 1, 2, 3],
-    [5, 4, 7, 6, 1, 0, 3, 2],
-    [6, 7, 4, 5, 2, 3, 0, 1],
-    [7, 6, 5, 4, 3, 2, 1, 0],
-    // write, either type
-    [0, 1, 2, 3, 4, 5, 6, 7],
-    [0, 1, 2, 3, 4, 5, 6, 7],
-    [0, 1, 2, 3, 4, 5, 6, 7],
-    [0, 1, 2, 3, 4, 5, 6, 7],
-    [0, 1, 2, 3, 4, 5, 6, 7],
-    [0, 1, 2, 3, 4, 5, 6, 7],
-    [0, 1, 2, 3, 4, 5, 6, 7],
-    [0, 1, 2, 3, 4, 5, 6, 7],
-];
-
-const FOUR: [[u8; 4]; 24] = [
-    // read, sequential
-    [0, 1, 2, 3],
-    [1, 2, 3, 0],
-    [2, 3, 0, 1],
-    [3, 0, 1, 2],
-    [4, 5, 6, 7],
-    [5, 6, 7, 4],
-    [6, 7, 4, 5],
-    [7, 4, 5, 6],
-    // read, interleave
-    [0, 1, 2, 3],
-    [1, 0, 3, 2],
-    [2, 3, 0, 1],
-    [3, 2, 1, 0],
-    [4, 5, 6, 7],
-    [5, 4, 7, 6],
-    [6, 7, 4, 5],
-    [7, 6, 5, 4],
-    // write, either type
-    [0, 1, 2, 3],
-    [0, 1, 2, 3],
-    [0, 1, 2, 3],
-    [0, 1, 2, 3],
-    [4, 5, 6, 7],
-    [4, 5, 6, 7],
-    [4, 5, 6, 7],
-    [4, 5, 6, 7],
-];
+ghost use Prim.Native.Nat.{_+_, _<_};
+ghost use Rattle.bursts.specs.Burst.{sequential, interleave, wordOf, wordsFrom, Ordered};
+ghost use Rattle.bursts.specs.Parts.{writeStart, Put};
 
 // Writes the words of a burst to the start of out, one byte a word, and returns 0. Type 0 is
 // sequential and direction 0 a read; any other number is the other. A refusal is returned as its
@@ -81,9 +14,10 @@ pub fn order(length: u32, start: u32, kind: u32, direction: u32, out: &mut [u8])
     if start > 7 {
         return 10;
     }
+    let words = words(length, start as u8, kind, direction);
     match length {
-        8 => put(&eight(start, kind, direction), out),
-        4 => put(&four(start, kind, direction), out),
+        8 => put(&words, out),
+        4 => put(&words[..4], out),
         _ => 10,
     }
 }
@@ -99,34 +33,64 @@ fn put(words: &[u8], out: &mut [u8]) -> u32
     0
 }
 
-// The words of a burst of eight.
-fn eight(start: u32, kind: u32, direction: u32) -> [u8; 8]
-    requires { ⌜ start < 8 ⌝ }
-    ensures { λ r. ⌜ r ≡ orderOf 8 start kind direction ⌝ }
-{
-    let row = row(start, kind, direction);
-    EIGHT[row]
-}
-
-// The words of a burst of four.
-fn four(start: u32, kind: u32, direction: u32) -> [u8; 4]
-    requires { ⌜ start < 8 ⌝ }
-    ensures { λ r. ⌜ r ≡ orderOf 4 start kind direction ⌝ }
-{
-    let row = row(start, kind, direction);
-    FOUR[row]
-}
-
-// The row of a burst, in both tables.
-fn row(start: u32, kind: u32, direction: u32) -> usize
-    requires { ⌜ start < 8 ⌝ }
-    ensures { λ r. ⌜ (r < 24) × (r ≡ rowOf start kind direction) ⌝ }
+// Words 0 to 7; a burst of four is the first four of them.
+fn words(length: u32, s: u8, kind: u32, direction: u32) -> [u8; 8]
+    requires { ⌜ s < 8 ⌝ }
+    ensures { λ r. ⌜ r ≡ wordsFrom (wordOf length s kind direction) 0 8 ⌝ }
 {
     if direction != 0 {
-        WRITE + start as usize
-    } else if kind != 0 {
-        INTERLEAVE + start as usize
-    } else {
-        SEQUENTIAL + start as usize
+        return up(write_start(length, s));
     }
+    if kind != 0 {
+        return interleaved(s);
+    }
+    in_sequence(s)
+}
+
+// Where a write starts: at s with its low three bits cleared (eight) or low two (four).
+fn write_start(length: u32, s: u8) -> u8
+    requires { ⌜ s < 8 ⌝ }
+    ensures { λ r. ⌜ (r < 8) × (r ≡ writeStart length s) ⌝ }
+{
+    if length == 8 {
+        return s / 8 * 8;
+    }
+    s / 4 * 4
+}
+
+fn up(s: u8) -> [u8; 8]
+    requires { ⌜ s < 8 ⌝ }
+    ensures { λ r. ⌜ r ≡ wordsFrom (_+_ s) 0 8 ⌝ }
+{
+    [s + 0, s + 1, s + 2, s + 3, s + 4, s + 5, s + 6, s + 7]
+}
+
+fn interleaved(s: u8) -> [u8; 8]
+    ensures { λ r. ⌜ r ≡ wordsFrom (interleave s) 0 8 ⌝ }
+{
+    [s ^ 0, s ^ 1, s ^ 2, s ^ 3, s ^ 4, s ^ 5, s ^ 6, s ^ 7]
+}
+
+fn in_sequence(s: u8) -> [u8; 8]
+    requires { ⌜ s < 8 ⌝ }
+    ensures { λ r. ⌜ r ≡ wordsFrom (sequential s) 0 8 ⌝ }
+{
+    [
+        word(s, 0),
+        word(s, 1),
+        word(s, 2),
+        word(s, 3),
+        word(s, 4),
+        word(s, 5),
+        word(s, 6),
+        word(s, 7),
+    ]
+}
+
+// Four times (s's bit 2 xor i's bit 2) plus (s + i) mod 4.
+fn word(s: u8, i: u8) -> u8
+    requires { ⌜ (s < 8) × (i < 8) ⌝ }
+    ensures { λ r. ⌜ r ≡ sequential s i ⌝ }
+{
+    4 * ((s / 4 % 2) ^ (i / 4 % 2)) + (s + i) % 4
 }
