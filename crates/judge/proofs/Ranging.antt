@@ -21,7 +21,6 @@ use Rattle.judge.specs.Ranges.{inRange}
 
 -- what the test tells
 pub record Tested (s : State) : Type 0 where
-  pub bin : s .header .bin ≤ 3
   pub some : 1 ≤ tREFI (s .header) .clocks
   pub rank : rankInRange (s .rank) ≡ true
 
@@ -29,8 +28,7 @@ pub tested : (s : State) → inRange s ≡ true → Tested s
 unfolding inRange
 tested s h =
     let a = both _ _ h in
-    let b = both _ _ (a .0) in
-    record { bin = leb-true _ _ (b .0); some = leb-true _ _ (b .1); rank = a .1 }
+    record { some = leb-true _ _ (a .0); rank = a .1 }
 
 module _ (s : State) (range : inRange s ≡ true) where
   pub takes : (bs : List ℕ) → length bs % 6 ≡ 0 → s .rank .count + length bs / 6 ≤ limit

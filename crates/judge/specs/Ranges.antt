@@ -7,4 +7,4 @@ use Rattle.running.specs.Ranges.{rankInRange}
 use Rattle.judge.specs.declared.State.{State}
 
 unfoldable pub inRange : State → Bool
-inRange s = (leb (s .header .bin) 3 && leb 1 (tREFI (s .header) .clocks)) && rankInRange (s .rank)
+inRange s = leb 1 (tREFI (s .header) .clocks) && rankInRange (s .rank)

@@ -80,7 +80,7 @@ fn in_range(s: State) -> bool
     ensures { λ r. ⌜ r ≡ ranges.inRange s ⌝ }
 {
     let interval = s.header.trefi().clocks;
-    ((s.header.bin <= 3) & (1 <= interval)) & still::in_range(s.rank)
+    (1 <= interval) & still::in_range(s.rank)
 }
 
 fn holding(h: Header, n: Rank) -> State

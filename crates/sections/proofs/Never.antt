@@ -8,6 +8,10 @@ use mathlib.Core.List.{List, [], _∷_}
 use lib.Dec.{eqb, ltb}
 use lib.ListN.{length, getD, getD-replicate}
 use borrow.Author.Tests.{eqb-true, ltb-false, le-leb, le-ltb}
+use Rattle.units.proofs.Rounding.{down-zero}
+use Rattle.header.specs.declared.Parsed.{Parsed}
+use Rattle.header.specs.declared.Parsed.the-variants.{Taken, Refused}
+use Rattle.header.specs.Bytes.{parsedOf}
 use Rattle.header.specs.Counts.{tREFI}
 use Rattle.records.specs.declared.Record.{Record}
 use Rattle.records.specs.Record.{fieldsOf, records, hasZero}
@@ -22,10 +26,10 @@ use Rattle.running.specs.Step.{stepOf, foldOf}
 use Rattle.running.specs.Ranges.{limit, lastEdge, banksOk, rankInRange, Small, Ranged}
 use Rattle.running.specs.Ends.{freshRank, freshShared}
 use Rattle.judge.specs.Ranges.{inRange}
-use Rattle.judge.specs.Calls.{holding, startOf, openOf, refuse, take, sectionOf}
+use Rattle.judge.specs.Calls.{holding, startOf, openedBy, openOf, refuse, take, sectionOf}
 use Rattle.running.proofs.Ranging.{Tested, tested, small, step-goes}
 use Rattle.judge.proofs.Ranging as state
-use Rattle.sections.proofs.Openings.{opened-header, opened-state, taken-sound, taken-bin}
+use Rattle.sections.proofs.Openings.{opened-header, opened-state, taken-sound}
 use Rattle.rules.proofs.Cutting.{length-records}
 
 -- ── From the facts to the test ──────────────────────────────────────────────────────────────
@@ -47,9 +51,9 @@ rank-in-range n t =
       banks-ok (n .banks) 8 (t .range .banks),
     )
 
-in-range : (s : State) → s .header .bin ≤ 3 → 1 ≤ tREFI (s .header) .clocks → Tested (s .rank) → inRange s ≡ true
+in-range : (s : State) → 1 ≤ tREFI (s .header) .clocks → Tested (s .rank) → inRange s ≡ true
 unfolding inRange
-in-range s bin some t = rw (le-leb (s .header .bin) 3 bin, le-leb 1 (tREFI (s .header) .clocks) some, rank-in-range (s .rank) t)
+in-range s some t = rw (le-leb 1 (tREFI (s .header) .clocks) some, rank-in-range (s .rank) t)
 
 -- ── Records ─────────────────────────────────────────────────────────────────────────────────
 
@@ -89,7 +93,7 @@ open-in-range bytes z =
     let w = opened-header bytes z in
     let h = w .0 in
     ap (λ (o : Opened). inRange (o .state)) (opened-state bytes h (w .1))
-    ∙ in-range (startOf h) (taken-bin bytes h (w .1)) (taken-sound bytes h (w .1) .refi-least) (record {
+    ∙ in-range (startOf h) (taken-sound bytes h (w .1) .refi-least) (record {
       count = omega arith;
       range = record {
         edge = omega arith;
@@ -112,7 +116,7 @@ section-in-range s bs h = rw h (go (eqb (length bs % 6) 0) refl (ltb limit (s .r
         let t = state.tested s h in
         let n = tested (s .rank) (t .rank) in
         let w = fold-kept (chipOf (s .header)) (small (s .header) (t .some)) (records bs) (s .rank) (n .range) (omega (arith, length-records bs sixes)) (short bs) in
-        in-range (holding (s .header) after) (t .bin) (t .some) (record { count = omega (arith, w .1, length-records bs sixes); range = w .0 })
+        in-range (holding (s .header) after) (t .some) (record { count = omega (arith, w .1, length-records bs sixes); range = w .0 })
 
     go :
         (x : Bool) → eqb (length bs % 6) 0 ≡ x → (y : Bool) → ltb limit (s .rank .count + length bs / 6) ≡ y → (z : Bool)
@@ -121,3 +125,12 @@ section-in-range s bs h = rw h (go (eqb (length bs % 6) 0) refl (ltb limit (s .r
     go true p false q true = h
     go true p true q z = h
     go false p y q z = h
+
+-- a refused opening hands out a state that every section and closing refuses with 17: its interval is 0
+pub refused-out-of-range : (bytes : List ℕ) → (openOf bytes .refused ≡ 0 → ⊥) → inRange (openOf bytes .state) ≡ false
+unfolding openOf inRange
+refused-out-of-range bytes n = go (parsedOf bytes) n
+  where
+    go : (p : Parsed) → (openedBy p .refused ≡ 0 → ⊥) → inRange (openedBy p .state) ≡ false
+    go (Taken h) m = absurd (m refl)
+    go (Refused k) m = rw (down-zero 7800000)

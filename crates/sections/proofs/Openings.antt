@@ -44,6 +44,9 @@ fields-taken bytes h = go (eqb (length bytes) 6) h
     go true e = e
     go false e = absurd (omega arith)
 
+pub least-period : (bytes : List ℕ) → headerRefusal bytes ≡ 0 → 1070 ≤ headerOf (headerWord bytes) .period .ps
+least-period bytes h = in-period (headerWord bytes) (fields-taken bytes h) .0
+
 pub taken-is : (bytes : List ℕ) (h : Header) → parsedOf bytes ≡ Taken h → (headerRefusal bytes ≡ 0) × (headerOf (headerWord bytes) ≡ h)
 unfolding parsedOf
 taken-is bytes h e = go (eqb (headerRefusal bytes) 0) refl e
@@ -58,9 +61,6 @@ pub taken-period : (bytes : List ℕ) (h : Header) → parsedOf bytes ≡ Taken 
 taken-period bytes h e =
     let w = taken-is bytes h e in
     subst (λ (x : Header). (1070 ≤ x .period .ps) × (x .period .ps ≤ 3300)) (w .1) (in-period (headerWord bytes) (fields-taken bytes (w .0)))
-
-pub taken-bin : (bytes : List ℕ) (h : Header) → parsedOf bytes ≡ Taken h → h .bin ≤ 3
-taken-bin bytes h e = subst (λ (x : Header). x .bin ≤ 3) (taken-is bytes h e .1) (omega arith)
 
 pub taken-sound : (bytes : List ℕ) (h : Header) → parsedOf bytes ≡ Taken h → Sound (chipOf h)
 taken-sound bytes h e = let w = taken-period bytes h e in sound h (w .0) (w .1)

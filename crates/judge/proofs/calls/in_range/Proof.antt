@@ -13,7 +13,7 @@ in-range-requires c κs = search needs
 
 returns : tie.Need-returns
 unfolding inRange
-returns c = simp (c .in-range .ensures, c .before .before .trefi .ensures)
+returns c = simp (c .in-range .ensures, c .before .trefi .ensures)
 
 pub in-range-spec : {M : Type 1} → statement M
 in-range-spec = tie.close (tie.spec trefi-requires in-range-requires returns)
