@@ -1,4 +1,4 @@
--- What it is to break a rule, in 01's words: at a record by rules 1 to 23, at an edge by 24 and 25. A check says so exactly then.
+-- A check says that a rule is broken exactly where it is.
 -- Assumes nothing.
 use Prim.Native.Nat.{ℕ, _-_, _≤_, _<_}
 use native.Mathlib.Omega.{arith}
@@ -9,7 +9,7 @@ use mathlib.Core.List.{[], _∷_}
 use Rattle.answers.specs.declared.Break.{Break}
 use Rattle.answers.specs.declared.Break.the-variants.{Fine, Broken}
 use Rattle.records.specs.declared.Record.{Record}
-use Rattle.records.specs.declared.Command.the-variants.{Mrs, Ref, Act, Rd, Sre, Srx, Bad}
+use Rattle.records.specs.declared.Command.the-variants.{Mrs, Ref, Act, Rd, Sre, Srx}
 use Rattle.chip.specs.declared.Chip.{Chip}
 use Rattle.rules.specs.Past.{Past, edge, number, is, _∈_, greatest}
 use Rattle.rules.specs.Banks.{start}
@@ -19,31 +19,18 @@ use Rattle.rules.proofs.Generic.{decide, broken-fine, short-fine, fine-kept}
 use Rattle.rules.proofs.Events.{never}
 use Rattle.rules.proofs.Clean.{Among, first, next, lowest-fine, is-other, act-not-all}
 use Rattle.rules.proofs.Starts.{since-kept}
-use Rattle.means.proofs.Partners.{Latest, latest-one, Fourth, fourth-one}
-use Rattle.means.proofs.Pairs.{speaksOf, mayFind, Lacks, code, registers, reset, Closing-kind, own, any}
-use Rattle.means.proofs.Least.{Pair, other-change, in-the-way, lacking, too-soon, precharging, five-acts, no-refresh, Says, says-row, says1, says2, says3, says5, says8, says23, BreaksRecord}
+use Rattle.means.specs.Partners.{Latest, Fourth}
+use Rattle.means.specs.Pairs.{speaksOf, mayFind, Lacks, code, registers, reset, Closing-kind, own, any, Pair, other-change, in-the-way, lacking, too-soon, precharging, five-acts, no-refresh}
+use Rattle.means.specs.Breaks.{Breaks, breaks1, breaks2, breaks3, breaksRow, breaks5, breaks8, breaks23}
+use Rattle.means.proofs.Partners.{latest-one, fourth-one}
+use Rattle.means.proofs.Least.{Says, says-row, says1, says2, says3, says5, says8, says23, BreaksRecord}
 
 module _ (C : Chip) (r : Record) (p : Past) where
   abbrev e : ℕ
   e = edge (r ∷ p)
 
-  -- the record r after the past p breaks the rule
-  pub data Breaks : (rule : ℕ) → Type 0 where
-    breaks1 : is Bad (r ∷ p) ≡ true → Breaks 1
-    breaks2 : (bank : ℕ) → bank < 8 → speaksOf C r p bank ≡ true → mayFind C r p bank ≡ false → Breaks 2
-    breaks3 : Lacks C r p → Breaks 3
-    -- 4, 6, 7 and 9 to 22: fewer clocks since some event than it needs
-    breaksRow :
-        (x : Row) → spacing C x .to (r ∷ p) ≡ true → (s : Past) → s ∈ p → spacing C x .from (r ∷ p) s ≡ true → e - edge s < spacing C x .need s
-        → Breaks (spacing C x .name)
-    -- fewer than tRP since some start
-    breaks5 : (kind : Past → Bool) → Closing-kind C r p kind → (s : Past) → s ∈ p → kind s ≡ true → e - start C s < C .trp → Breaks 5
-    breaks8 : is Act (r ∷ p) ≡ true → (s : Past) → Fourth p s → e - edge s < C .tfaw → Breaks 8
-    -- an SRX after which no REF came
-    breaks23 : is Sre (r ∷ p) ≡ true → (s : Past) → Latest (λ t. is Srx t || is Ref t) p s → is Srx s ≡ true → Breaks 23
-
   -- a rule with its pair is broken
-  pub broken-by : {k n m f : ℕ} → Pair C r p n m f k → Breaks k
+  pub broken-by : {k n m f : ℕ} → Pair C r p n m f k → Breaks C r p k
   broken-by (other-change y z w) = breaks1 y
   broken-by (in-the-way w) = breaks2 (w .bank) (w .below) (w .speaks) (w .in-the-way)
   broken-by (lacking w y z) = breaks3 w
@@ -119,7 +106,7 @@ module _ (C : Chip) (r : Record) (p : Past) where
   woken-bad : is Sre (r ∷ p) ≡ true → (s : Past) → Latest (λ t. is Srx t || is Ref t) p s → is Srx s ≡ true → rule23 C r p ≡ Fine → ⊥
   woken-bad y s w z h = broken-fine (rw (latest-one (λ t. is Srx t || is Ref t) p s w, y, z) at h)
 
-  pub says-so : {k : ℕ} → Breaks k → BreaksRecord C r p k
+  pub says-so : {k : ℕ} → Breaks C r p k → BreaksRecord C r p k
   says-so (breaks1 y) = said (rule1 C) first (says1 C) (λ h. broken-fine (rw y at h))
   says-so (breaks2 b l y z) = said (rule2 C) (search (first, next)) (says2 C) (way-bad b l y z)
   says-so (breaks3 w) = said (rule3 C) (search (first, next)) (says3 C) (lack-bad w)

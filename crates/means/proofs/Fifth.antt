@@ -11,12 +11,12 @@ use Rattle.answers.specs.declared.Break.{Break}
 use Rattle.answers.specs.declared.Break.the-variants.{Fine}
 use Rattle.chip.specs.declared.Chip.{Chip}
 use Rattle.records.specs.declared.Command.the-variants.{Pre}
-use Rattle.rules.specs.Past.{Past, is, column, bankOf, on, a10Of, _∈_, latest, greatest}
+use Rattle.rules.specs.Past.{Past, is, column, bankOf, on, a10Of, _∈_, latest, greatest, Greatest}
 use Rattle.rules.specs.Search.{lookBack, asking}
 use Rattle.rules.specs.Banks.{closes, shuts, start}
 use Rattle.rules.specs.Rules.{since}
 use Rattle.rules.proofs.Generic.{decide, checkOf, kept-fine, latest-only}
-use Rattle.rules.proofs.Events.{number-le, unchanged-or, Greatest, greatest-is}
+use Rattle.rules.proofs.Events.{number-le, unchanged-or, greatest-is}
 use Rattle.rules.proofs.Clean.{Clean}
 use Rattle.rules.proofs.Starts.{start-none, since-kept, starts, greatest-latest}
 use Rattle.rules.proofs.Facts.{Sound}

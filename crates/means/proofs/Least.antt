@@ -2,33 +2,21 @@
 -- Assumes nothing.
 use Prim.Native.Nat.{ℕ}
 use mathlib.Core.Path.{_≡_}
-use mathlib.Core.Bool.{true}
-use mathlib.Core.List.{_∷_}
 use Rattle.answers.specs.declared.Break.{Break}
 use Rattle.answers.specs.declared.Break.the-variants.{Broken}
 use Rattle.records.specs.declared.Record.{Record}
-use Rattle.records.specs.declared.Command.the-variants.{Bad}
 use Rattle.chip.specs.declared.Chip.{Chip}
-use Rattle.rules.specs.Past.{Past, is}
+use Rattle.rules.specs.Past.{Past}
 use Rattle.rules.specs.Rules.{Row, rule1, rule2, rule3, rule5, rule8, rule23, spacing, spaced, checks}
 use Rattle.rules.proofs.Clean.{Among}
-use Rattle.means.proofs.Partners.{Row-pair, row-pair}
-use Rattle.means.proofs.Pairs.{None, Way-pair, Lacks, Start-pair, Fourth-pair, Woken-pair, pair1, pair2, pair3, pair5, pair8, pair23}
+use Rattle.means.specs.Pairs.{Pair, other-change, in-the-way, lacking, too-soon, precharging, five-acts, no-refresh}
+use Rattle.means.proofs.Partners.{row-pair}
+use Rattle.means.proofs.Pairs.{pair1, pair2, pair3, pair5, pair8, pair23}
 
 module _ (C : Chip) where
-  -- what the record r after the past p broke, with whom, in 01's words
-  pub data Pair (r : Record) (p : Past) (partner needed found : ℕ) : (rule : ℕ) → Type 0 where
-    other-change : is Bad (r ∷ p) ≡ true → partner ≡ 0 → None needed found → Pair r p partner needed found 1
-    in-the-way : Way-pair C r p partner needed found → Pair r p partner needed found 2
-    lacking : Lacks C r p → partner ≡ 0 → None needed found → Pair r p partner needed found 3
-    too-soon : (x : Row) → Row-pair (spacing C x) r p partner needed found → Pair r p partner needed found (spacing C x .name)
-    precharging : Start-pair C r p partner needed found → Pair r p partner needed found 5
-    five-acts : Fourth-pair C r p partner needed found → Pair r p partner needed found 8
-    no-refresh : Woken-pair C r p partner needed found → Pair r p partner needed found 23
-
   -- the check g speaks of rule k alone
   abbrev pub Says : ℕ → (Record → Past → Break) → Type 0
-  Says k g = (r : Record) (p : Past) (j n m f : ℕ) → g r p ≡ Broken j n m f → (j ≡ k) × Pair r p n m f k
+  Says k g = (r : Record) (p : Past) (j n m f : ℕ) → g r p ≡ Broken j n m f → (j ≡ k) × Pair C r p n m f k
 
   pub says1 : Says 1 (rule1 C)
   says1 r p j n m f h = let w = pair1 C r p j n m f h in (w .0, other-change (w .1) (w .2) (w .3))

@@ -7,3 +7,5 @@ pub mod Order
 pub mod Means
 pub mod Fourth
 pub mod Fifth
+pub mod Clock
+pub mod Fitting

@@ -20,25 +20,11 @@ use Rattle.rules.proofs.Generic.{edge-le}
 use Rattle.rules.proofs.Clean.{Among, first, next}
 use Rattle.rules.proofs.Numbered.{stop-clean}
 use Rattle.rules.proofs.Sense.{verdict-next, skip-to, clean-iff, stop-at, stop-after, earliest}
-use Rattle.means.proofs.Breaks.{Breaks, broken-by, says-so}
-use Rattle.means.proofs.Passing.{Late, pair24, late-bad, Owing, pair25, owing-bad}
-use Rattle.means.proofs.Order.{How, record-did, limit-passed, debt-grew, broken-never, broken-clean, among-records, among-rest, broken-least}
-
-module _ (C : Chip) (q : Past) where
-  -- rule k is broken at edge t of the recording q
-  pub data BreaksAt (t : ℕ) : (rule : ℕ) → Type 0 where
-    by-record : {r : Record} {p : Past} {k : ℕ} → r ∷ p ∈ q → edge (r ∷ p) ≡ t → Breaks C r p k → BreaksAt t k
-    by-limit : (bank : ℕ) → bank < 8 → Late C q t bank → BreaksAt t 24
-    by-debt : Owing C q t → BreaksAt t 25
-
-  -- what it means that the recording closed at the edge `end` is broken
-  pub record Broken-means (end t num rule partner needed found : ℕ) : Type 0 where
-    pub from-one : 1 ≤ t
-    pub to-end : t ≤ end
-    pub broken : BreaksAt t rule
-    pub earliest-edge : (s j : ℕ) → 0 < s → s < t → BreaksAt s j → ⊥
-    pub least-rule : (j : ℕ) → BreaksAt t j → rule ≤ j
-    pub how : How C q t num partner needed found rule
+use Rattle.means.specs.Breaks.{BreaksAt, by-record, by-limit, by-debt}
+use Rattle.means.specs.Means.{How, record-did, limit-passed, debt-grew, Broken-means}
+use Rattle.means.proofs.Breaks.{broken-by, says-so}
+use Rattle.means.proofs.Passing.{pair24, late-bad, pair25, owing-bad}
+use Rattle.means.proofs.Order.{broken-never, broken-clean, among-records, among-rest, broken-least}
 
 module _ (C : Chip) (q : Past) (apart : Apart q) where
   -- ── An edge ───────────────────────────────────────────────────────────────────────────────

@@ -19,8 +19,9 @@ use Rattle.rules.specs.Verdict.{Outcome, clean, stop, keep, told, Check, ofReco
 use Rattle.rules.proofs.Generic.{decide, broken-fine}
 use Rattle.rules.proofs.Clean.{Among, first, next}
 use Rattle.rules.proofs.Numbered.{stop-clean, keep-clean}
-use Rattle.means.proofs.Least.{Pair, Says, says1, says2, says3, says5, says8, says23, says-row}
-use Rattle.means.proofs.Passing.{Late-pair, pair24, Debt-pair, pair25}
+use Rattle.means.specs.Means.{How, record-did, limit-passed, debt-grew}
+use Rattle.means.proofs.Least.{Says, says1, says2, says3, says5, says8, says23, says-row}
+use Rattle.means.proofs.Passing.{pair24, pair25}
 
 -- ── What one check says ─────────────────────────────────────────────────────────────────────
 
@@ -91,17 +92,9 @@ among-rest (f ∷ fs) i = next (among-rest fs i)
 -- ── By number ───────────────────────────────────────────────────────────────────────────────
 
 module _ (C : Chip) (q : Past) where
-  -- the record at t, "24 and 25: record none", and the pair
-  pub data How (t num partner needed found : ℕ) : (rule : ℕ) → Type 0 where
-    record-did :
-        {r : Record} {p : Past} {k : ℕ} → r ∷ p ∈ q → edge (r ∷ p) ≡ t → num ≡ number (r ∷ p) → Pair C r p partner needed found k
-        → How t num partner needed found k
-    limit-passed : num ≡ 0 → Late-pair C q t partner needed found → How t num partner needed found 24
-    debt-grew : num ≡ 0 → Debt-pair C q t partner needed found → How t num partner needed found 25
-
   -- the check c speaks of rule k alone, and names its pair
   abbrev Speaks : ℕ → Check → Type 0
-  Speaks k c = (t u n j x m f : ℕ) → checkSays c q t ≡ stop u n (Broken j x m f) → (j ≡ k) × How t n x m f k
+  Speaks k c = (t u n j x m f : ℕ) → checkSays c q t ≡ stop u n (Broken j x m f) → (j ≡ k) × How C q t n x m f k
 
   of-record : {k : ℕ} {g : Record → Past → Break} → Says C k g → Speaks k (ofRecord g)
   of-record {g = g} s t u n j x m f h =
@@ -177,19 +170,19 @@ module _ (C : Chip) (q : Past) where
     past-own s o h u n i a b d (next e) g = above o h u n i a b d e g
 
     -- the first break in the list is that of the least rule
-    first-break : {i u n k x m f : ℕ} {cs : List Check} → Ordered i cs → firstOf cs q t ≡ stop u n (Broken k x m f) → How t n x m f k × NoneBelow k cs
+    first-break : {i u n k x m f : ℕ} {cs : List Check} → Ordered i cs → firstOf cs q t ≡ stop u n (Broken k x m f) → How C q t n x m f k × NoneBelow k cs
     unfolding keep
     first-break none h = stop-clean (sym h)
     first-break {u = u} {n = n} {k = k} {x = x} {m = m} {f = f} (also {c = c} {cs = cs} j l s o) h = go (checkSays c q t) refl h (first-break o)
       where
         go : (v : Outcome) → checkSays c q t ≡ v → keep v (firstOf cs q t) ≡ stop u n (Broken k x m f)
-            → (firstOf cs q t ≡ stop u n (Broken k x m f) → How t n x m f k × NoneBelow k cs) → How t n x m f k × NoneBelow k (c ∷ cs)
+            → (firstOf cs q t ≡ stop u n (Broken k x m f) → How C q t n x m f k × NoneBelow k cs) → How C q t n x m f k × NoneBelow k (c ∷ cs)
         go clean e g ih = let w = ih g in (w .0, past-clean e (w .1))
         go (stop a b d) e g ih =
             let own = s t u n k x m f (e ∙ g) in
             let same : j ≡ k = sym (own .0) in
-            (subst (How t n x m f) same (own .1), subst (λ i. NoneBelow i (c ∷ cs)) same (past-own s o))
+            (subst (How C q t n x m f) same (own .1), subst (λ i. NoneBelow i (c ∷ cs)) same (past-own s o))
 
-    pub broken-least : {u n k x m f : ℕ} → brokenAt C q t ≡ stop u n (Broken k x m f) → How t n x m f k × NoneBelow k (edgeChecks C)
+    pub broken-least : {u n k x m f : ℕ} → brokenAt C q t ≡ stop u n (Broken k x m f) → How C q t n x m f k × NoneBelow k (edgeChecks C)
     unfolding brokenAt
     broken-least h = first-break ordered h

@@ -1,5 +1,4 @@
--- Whom a broken rule names, and with which clocks: 01, "Partner". Here the latest of a kind, a least spacing, the lowest bank and the
--- fourth ACT back.
+-- The searches find the partners that 01 names: the latest of a kind, a least spacing, the lowest bank and the fourth ACT back.
 -- Assumes nothing.
 use Prim.Native.Nat.{ℕ, zero, suc, _-_, _≤_, _<_}
 use native.Mathlib.Omega.{arith}
@@ -26,17 +25,12 @@ use Rattle.rules.proofs.Clean.{lowest-fine}
 use Rattle.rules.proofs.Status.{status-by}
 use Rattle.rules.proofs.Sense.{Partner, partner-is}
 use Rattle.rules.proofs.Words.{back-latest}
+use Rattle.means.specs.Partners.{Latest, Fourth, Row-pair}
 
 pub fine-broken {ℓ} : {A : Type ℓ} {k n m f : ℕ} → Fine ≡ Broken k n m f → A
 fine-broken h = let z : _≡_ {A = ℕ} 0 1 = cc in absurd (omega arith)
 
 -- ── The latest of a kind ────────────────────────────────────────────────────────────────────
-
--- s is the latest event of the kind k in p
-pub record Latest (k : Past → Bool) (p s : Past) : Type 0 where
-  pub event : s ∈ p
-  pub kind : k s ≡ true
-  pub last : (t : Past) → t ∈ p → k t ≡ true → number t ≤ number s
 
 pub latest-sense : (k : Past → Bool) (p : Past) → 1 ≤ number (latest k p) → Latest k p (latest k p)
 latest-sense k [] l = absurd (omega arith)
@@ -64,18 +58,6 @@ pub latest-one : (k : Past → Bool) (p s : Past) → Latest k p s → latest k 
 latest-one k p s w = latest-at k (w .event) (w .kind) (w .last)
 
 -- ── A least spacing ─────────────────────────────────────────────────────────────────────────
-
--- "Partner: the latest earlier record breaking the rule": at the record r after p, with the clocks of that pair
-pub record Row-pair (R : Spacing) (r : Record) (p : Past) (partner needed found : ℕ) : Type 0 where
-  pub later : R .to (r ∷ p) ≡ true
-  pub event : Past
-  pub within : event ∈ p
-  pub earlier : R .from (r ∷ p) event ≡ true
-  pub partner-is : partner ≡ number event
-  pub needed-is : needed ≡ R .need event
-  pub found-is : found ≡ edge (r ∷ p) - edge event
-  pub too-few : found < needed
-  pub last : (s : Past) → s ∈ p → R .from (r ∷ p) s ≡ true → partner < number s → R .need s ≤ edge (r ∷ p) - edge s
 
 pub row-pair : (R : Spacing) (r : Record) (p : Past) (k n m f : ℕ) → row R r p ≡ Broken k n m f → (k ≡ R .name) × Row-pair R r p n m f
 row-pair R r p k n m f h = ⊎-elim
@@ -139,10 +121,6 @@ pub act-number : (C : Chip) (b t : ℕ) (p : Past) → actNum (status C b p t) �
 act-number C b t p = status-cases C b t p (λ k. actNum k ≡ cond (isIdle k) 0 (number (latest (actOn b) p))) refl refl refl
 
 -- ── The fourth back ─────────────────────────────────────────────────────────────────────────
-
--- s is the ACT of p after which there were three more: the latest before the latest before ..
-abbrev pub Fourth : (p s : Past) → Type 0
-Fourth p s = (a b c : Past) × Latest (is Act) p a × Latest (is Act) (tail a) b × Latest (is Act) (tail b) c × Latest (is Act) (tail c) s
 
 back-tail : (k : Past → Bool) (n : ℕ) (p : Past) → back k (suc n) p ≡ back k n (tail (latest k p))
 back-tail k n [] = refl

@@ -1,6 +1,6 @@
--- Rules 24 and 25 at an edge: what it is to break them, whom they name and with which clocks (01, "24 the ACT; 25 the last REF or none").
+-- Rules 24 and 25 at an edge say that they are broken exactly where they are, and name the pair that 01 names.
 -- Assumes nothing.
-use Prim.Native.Nat.{ℕ, _+_, _-_, _≤_, _<_}
+use Prim.Native.Nat.{ℕ, _+_, _-_, _<_}
 use mathlib.Core.Path.{_≡_, refl, sym, _∙_}
 use mathlib.Core.Bool.{Bool, true, false, cond}
 use lib.Dec.{eqb, leb}
@@ -15,11 +15,8 @@ use Rattle.rules.specs.Deadlines.{over, late, rule24, rule25, owedAt}
 use Rattle.rules.proofs.Generic.{broken-fine}
 use Rattle.rules.proofs.Events.{never}
 use Rattle.rules.proofs.Clean.{lowest-fine}
+use Rattle.means.specs.Passing.{Over, Late, Late-pair, Owing, Debt-pair}
 use Rattle.means.proofs.Partners.{fine-broken, Lowest, lowest-sense, status-cases, act-number}
-
--- a bank's time is over exactly where it is not idle and its latest ACT was just longer ago than it may be
-abbrev pub Over : (C : Chip) (bank : ℕ) (p : Past) (u t : ℕ) → Type 0
-Over C b p u t = (isIdle (status C b p u) ≡ false) × (edge (latest (actOn b) p) + C .most + 1 ≡ t)
 
 over-is : (C : Chip) (b : ℕ) (p : Past) (u t : ℕ)
     → over (C .most) (status C b p u) t ≡ cond (isIdle (status C b p u)) false (eqb (edge (latest (actOn b) p) + C .most + 1) t)
@@ -37,21 +34,7 @@ over-true : (C : Chip) (b : ℕ) (p : Past) (u t : ℕ) → Over C b p u t → o
 over-true C b p u t w = over-is C b p u t ∙ rw (w .0) (eq-eqb _ t (w .1))
 
 module _ (C : Chip) (q : Past) (t : ℕ) where
-  -- "A bank's precharge must start no later than ACT + greatest tRAS; broken one edge after", by the status one edge before t
-  abbrev pub Late : (bank : ℕ) → Type 0
-  Late b = Over C b (upTo (t - 1) q) (t - 1) t
-
-  -- "24 the ACT", of the lowest bank; "needed its limit, found one more"
-  pub record Late-pair (partner needed found : ℕ) : Type 0 where
-    pub bank : ℕ
-    pub below : bank < 8
-    pub passed : Late bank
-    pub lower : (b : ℕ) → b < bank → Late b → ⊥
-    pub partner-is : partner ≡ number (latest (actOn bank) (upTo (t - 1) q))
-    pub needed-is : needed ≡ C .most
-    pub found-is : found ≡ C .most + 1
-
-  pub pair24 : (k n m f : ℕ) → rule24 C q t ≡ Broken k n m f → (k ≡ 24) × Late-pair n m f
+  pub pair24 : (k n m f : ℕ) → rule24 C q t ≡ Broken k n m f → (k ≡ 24) × Late-pair C q t n m f
   pair24 k n m f h = go (lowest-sense _ 8 k n m f h)
     where
       st : ℕ → Bank
@@ -65,7 +48,7 @@ module _ (C : Chip) (q : Past) (t : ℕ) where
       good : (x : Bool) (a : ℕ) → cond x (Broken 24 a (C .most) (C .most + 1)) Fine ≡ Fine → x ≡ true → ⊥
       good x a g y = broken-fine (rw y at g)
 
-      go : Lowest (λ b. late (C .most) (st b) t) 8 (Broken k n m f) → (k ≡ 24) × Late-pair n m f
+      go : Lowest (λ b. late (C .most) (st b) t) 8 (Broken k n m f) → (k ≡ 24) × Late-pair C q t n m f
       go w =
           let b = w .bank in
           let x = bad (over (C .most) (st b) t) (actNum (st b)) (w .here-is) in
@@ -82,27 +65,16 @@ module _ (C : Chip) (q : Past) (t : ℕ) where
             },
           )
 
-  pub late-bad : (b : ℕ) → b < 8 → Late b → rule24 C q t ≡ Fine → ⊥
+  pub late-bad : (b : ℕ) → b < 8 → Late C q t b → rule24 C q t ≡ Fine → ⊥
   late-bad b l w h = broken-fine (rw (over-true C b (upTo (t - 1) q) (t - 1) t w) at (lowest-fine _ 8 b h l))
 
-  -- the debt is 9 or more after the edge's command
-  abbrev pub Owing : Type 0
-  Owing = 17 ≤ owedAt (C .trefi) (upTo t q) t
-
-  -- "25 the last REF or none"; "needed 8, found 9"
-  pub record Debt-pair (partner needed found : ℕ) : Type 0 where
-    pub owes : Owing
-    pub partner-is : partner ≡ number (latest (is Ref) (upTo t q))
-    pub needed-is : needed ≡ 8
-    pub found-is : found ≡ 9
-
-  pub pair25 : (k n m f : ℕ) → rule25 C q t ≡ Broken k n m f → (k ≡ 25) × Debt-pair n m f
+  pub pair25 : (k n m f : ℕ) → rule25 C q t ≡ Broken k n m f → (k ≡ 25) × Debt-pair C q t n m f
   pair25 k n m f h = go (leb 17 (owedAt (C .trefi) (upTo t q) t)) refl h
     where
       go : (x : Bool) → leb 17 (owedAt (C .trefi) (upTo t q) t) ≡ x → cond x (Broken 25 (number (latest (is Ref) (upTo t q))) 8 9) Fine ≡ Broken k n m f
-          → (k ≡ 25) × Debt-pair n m f
+          → (k ≡ 25) × Debt-pair C q t n m f
       go true y g = (cc, record { owes = leb-true _ _ y; partner-is = cc; needed-is = cc; found-is = cc })
       go false y g = fine-broken g
 
-  pub owing-bad : Owing → rule25 C q t ≡ Fine → ⊥
+  pub owing-bad : Owing C q t → rule25 C q t ≡ Fine → ⊥
   owing-bad w h = broken-fine (rw (le-leb 17 (owedAt (C .trefi) (upTo t q) t) w) at h)

@@ -11,7 +11,7 @@ use borrow.Author.Tests.{leb-true, leb-false, le-leb}
 use Rattle.answers.specs.declared.Break.{Break}
 use Rattle.answers.specs.declared.Break.the-variants.{Fine, Broken}
 use Rattle.records.specs.declared.Record.{Record}
-use Rattle.rules.specs.Past.{Past, edge, number, _∈_, here, there, latest, greatest}
+use Rattle.rules.specs.Past.{Past, edge, number, _∈_, here, there, latest, greatest, Greatest}
 use Rattle.answers.specs.Answer.{orElse}
 use Rattle.rules.proofs.Generic.{decide, broken-fine}
 
@@ -96,21 +96,14 @@ part-same part kind f s t e = latest-part part kind f s ∙ ap (latest part) e �
 -- ── The greatest ────────────────────────────────────────────────────────────────────────────
 
 module _ (k : Past → Bool) (f : Past → ℕ) where
-  -- what `greatest` finds: no event of the kind has more, and none after it as much
-  pub record Greatest (p s : Past) : Type 0 where
-    pub event : s ∈ p
-    pub kind : k s ≡ true
-    pub most : (t : Past) → t ∈ p → k t ≡ true → f t ≤ f s
-    pub last : (t : Past) → t ∈ p → k t ≡ true → number s < number t → f t < f s
-
-  greatest-new : (r : Record) (p : Past) → k (r ∷ p) ≡ true → ((t : Past) → t ∈ p → k t ≡ true → f t ≤ f (r ∷ p)) → Greatest (r ∷ p) (r ∷ p)
+  greatest-new : (r : Record) (p : Past) → k (r ∷ p) ≡ true → ((t : Past) → t ∈ p → k t ≡ true → f t ≤ f (r ∷ p)) → Greatest k f (r ∷ p) (r ∷ p)
   greatest-new r p y h = record { event = here; kind = y; most = most; last = λ t i z l. absurd (omega (arith, number-le i)) }
     where
       most : (t : Past) → t ∈ r ∷ p → k t ≡ true → f t ≤ f (r ∷ p)
       most t here z = omega arith
       most t (there i) z = h t i z
 
-  greatest-old : (r : Record) (p s : Past) → (k (r ∷ p) ≡ true → f (r ∷ p) < f s) → Greatest p s → Greatest (r ∷ p) s
+  greatest-old : (r : Record) (p s : Past) → (k (r ∷ p) ≡ true → f (r ∷ p) < f s) → Greatest k f p s → Greatest k f (r ∷ p) s
   greatest-old r p s h g = record { event = there (g .event); kind = g .kind; most = most; last = last }
     where
       most : (t : Past) → t ∈ r ∷ p → k t ≡ true → f t ≤ f s
@@ -125,8 +118,8 @@ module _ (k : Past → Bool) (f : Past → ℕ) where
   none-more r p n h t here = n
   none-more r p n h t (there i) = h t i
 
-  greatest-next : (r : Record) (p g : Past) → k (r ∷ p) ≡ true → ((g ≡ []) × ((t : Past) → t ∈ p → k t ≡ false)) ⊎ Greatest p g
-      → f [] ≡ 0 → Greatest (r ∷ p) (cond (leb (f g) (f (r ∷ p))) (r ∷ p) g)
+  greatest-next : (r : Record) (p g : Past) → k (r ∷ p) ≡ true → ((g ≡ []) × ((t : Past) → t ∈ p → k t ≡ false)) ⊎ Greatest k f p g
+      → f [] ≡ 0 → Greatest k f (r ∷ p) (cond (leb (f g) (f (r ∷ p))) (r ∷ p) g)
   greatest-next r p g y (inl w) z =
       let e : f g ≡ 0 = ap f (w .0) ∙ z in
       rw (le-leb (f g) (f (r ∷ p)) (omega arith)) (greatest-new r p y (λ t i u. never u (w .1 t i)))
@@ -135,7 +128,7 @@ module _ (k : Past → Bool) (f : Past → ℕ) where
       (λ (u : leb (f g) (f (r ∷ p)) ≡ false). rw u (greatest-old r p g (λ _. leb-false _ _ u) w))
       (decide (leb (f g) (f (r ∷ p))))
 
-  pub greatest-is : f [] ≡ 0 → (p : Past) → ((greatest k f p ≡ []) × ((t : Past) → t ∈ p → k t ≡ false)) ⊎ Greatest p (greatest k f p)
+  pub greatest-is : f [] ≡ 0 → (p : Past) → ((greatest k f p ≡ []) × ((t : Past) → t ∈ p → k t ≡ false)) ⊎ Greatest k f p (greatest k f p)
   greatest-is z [] = inl (refl, λ t i. absurd (omega (arith, some i)))
   greatest-is z (r ∷ p) = ⊎-elim
       (λ (y : k (r ∷ p) ≡ true). inr (rw y (greatest-next r p (greatest k f p) y (greatest-is z p) z)))
@@ -146,7 +139,7 @@ module _ (k : Past → Bool) (f : Past → ℕ) where
       (decide (k (r ∷ p)))
 
   -- there is one such number
-  pub greatest-one : {p s t : Past} → Greatest p s → Greatest p t → number s ≡ number t
+  pub greatest-one : {p s t : Past} → Greatest k f p s → Greatest k f p t → number s ≡ number t
   greatest-one {s = s} {t = t} g h =
       let a : ¬ (number s < number t) = λ l. let u = g .last t (h .event) (h .kind) l in let v = h .most s (g .event) (g .kind) in omega arith in
       let b : ¬ (number t < number s) = λ l. let u = h .last s (g .event) (g .kind) l in let v = g .most t (h .event) (h .kind) in omega arith in

@@ -1,8 +1,9 @@
 -- A recording seen from one of its records: 01, "The recording", and the first paragraph of "Commands and the 25 rules".
 -- Assumes nothing.
-use Prim.Native.Nat.{ℕ, zero, suc, _+_}
+use Prim.Native.Nat.{ℕ, zero, suc, _+_, _≤_, _<_}
 use mathlib.Core.Bool.{Bool, true, false, cond, _||_}
 use mathlib.Core.List.{List, [], _∷_, reverse}
+use mathlib.Core.Path.{_≡_}
 use lib.Dec.{eqb, leb}
 use Rattle.records.specs.declared.Record.{Record}
 use Rattle.records.specs.declared.Command.{Command}
@@ -99,6 +100,13 @@ has k (r ∷ p) = k (r ∷ p) || has k p
 abbrev pub greatest : (Past → Bool) → (Past → ℕ) → Past → Past
 greatest k f [] = []
 greatest k f (r ∷ p) = cond (k (r ∷ p)) (cond (leb (f (greatest k f p)) (f (r ∷ p))) (r ∷ p) (greatest k f p)) (greatest k f p)
+
+-- s is that event: none of the kind has more, and none after it as much
+pub record Greatest (k : Past → Bool) (f : Past → ℕ) (p s : Past) : Type 0 where
+  pub event : s ∈ p
+  pub kind : k s ≡ true
+  pub most : (t : Past) → t ∈ p → k t ≡ true → f t ≤ f s
+  pub last : (t : Past) → t ∈ p → k t ≡ true → number s < number t → f t < f s
 
 -- the records up to edge t
 abbrev pub upTo : ℕ → Past → Past
