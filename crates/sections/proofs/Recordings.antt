@@ -8,12 +8,12 @@ use mathlib.Core.Bool.{Bool, true, false, cond, _&&_, _||_}
 use mathlib.Core.List.{List, []}
 use lib.Dec.{eqb, ltb}
 use lib.ListN.{length, drop, length-take}
-use borrow.Author.Tests.{eq-eqb, ne-eqb}
+use borrow.Author.Tests.{eq-eqb, ne-eqb, eqb-true, eqb-false, ltb-false}
 use Rattle.header.specs.declared.Header.{Header}
 use Rattle.header.specs.declared.Parsed.{Parsed}
 use Rattle.header.specs.declared.Parsed.the-variants.{Taken, Refused}
 use Rattle.header.specs.Bins.{binOf}
-use Rattle.header.specs.Bytes.{parsedOf, edition, bin, zeroA, zeroB, period, fieldsRefusal, headerRefusal, headerWord, numberOf}
+use Rattle.header.specs.Bytes.{parsedOf, edition, bin, zeroA, zeroB, period, fieldsRefusal, headerRefusal, headerWord, headerOf, numberOf}
 use Rattle.header.proofs.Answers.{number-is}
 use Rattle.records.specs.Record.{records, hasZero}
 use Rattle.chip.specs.Chip.{chipOf}
@@ -22,10 +22,11 @@ use Rattle.judge.specs.declared.Closed.{Closed}
 use Rattle.judge.specs.declared.Taken.{Taken as Section}
 use Rattle.judge.specs.Calls.{openedBy, openOf, sectionOf, closeOf, closed, notClosed}
 use Rattle.running.specs.Ranges.{limit, lastEdge}
-use Rattle.rules.specs.Past.{edge}
-use Rattle.rules.specs.Verdict.{shownVerdict, answer}
+use Rattle.rules.specs.Past.{edge, number}
+use Rattle.rules.specs.Verdict.{shownVerdict, Apart, answer}
+use Rattle.rules.proofs.Cutting.{length-records, number-all, steps, apart-all}
 use Rattle.sections.specs.Recording.{headerBytes, past, endRefusal, recordsRefusal, wholeRefusal, wholeVerdict}
-use Rattle.sections.proofs.Openings.{taken-is, taken-sound, opened-header}
+use Rattle.sections.proofs.Openings.{least-period, taken-is, taken-sound, opened-header}
 use Rattle.sections.specs.Sections.{refusal}
 use Rattle.sections.proofs.Section.{fits, refused-is, close-is}
 use Rattle.sections.proofs.Sections.{stands, stands-more}
@@ -148,3 +149,37 @@ module _ (bs : List ℕ) (end : ℕ) where
           go : (x : Bool) → ended ≡ cond x (notClosed 8) (closed (answer (chipOf h) (past bs) end)) → ended .end .verdict ≡ wholeVerdict bs end
           go true e = absurd (omega (arith, sym c ∙ ap (λ (y : Closed). y .refused) e))
           go false e = ap (λ (y : Closed). y .end .verdict) e ∙ ap (λ x. shownVerdict (chipOf x) (past bs) end) (sym (taken-is (headerBytes bs) h is .1))
+
+-- ── A recording that is not refused ─────────────────────────────────────────────────────────
+
+pub record Good (bs : List ℕ) (end : ℕ) : Type 0 where
+  pub least : 1070 ≤ headerOf (headerWord (headerBytes bs)) .period .ps
+  pub apart : Apart (past bs)
+  pub few : number (past bs) ≤ 1048576
+  pub near : end ≤ 17592186044416
+
+pub good : (bs : List ℕ) (end : ℕ) → wholeRefusal bs end ≡ 0 → Good bs end
+unfolding wholeRefusal recordsRefusal
+good bs end taken =
+    go (eqb (headerRefusal (headerBytes bs)) 0) refl (eqb (length (drop 6 bs) % 6) 0) refl (ltb 1048576 (length (drop 6 bs) / 6)) refl
+    (hasZero (records (drop 6 bs))) refl (ltb end (edge (past bs))) (ltb 17592186044416 end) refl taken
+  where
+    go :
+        (x : Bool) → eqb (headerRefusal (headerBytes bs)) 0 ≡ x → (s : Bool) → eqb (length (drop 6 bs) % 6) 0 ≡ s
+        → (l : Bool) → ltb 1048576 (length (drop 6 bs) / 6) ≡ l → (z : Bool) → hasZero (records (drop 6 bs)) ≡ z
+        → (a b : Bool) → ltb 17592186044416 end ≡ b
+        → cond x (cond s (cond l 7 (cond z 6 (cond (a || b) 8 0))) 5) (headerRefusal (headerBytes bs)) ≡ 0 → Good bs end
+    go true p true q false r false t false false u e =
+        let n = length-records (drop 6 bs) (eqb-true _ _ q) in
+        record {
+          least = least-period (headerBytes bs) (eqb-true _ _ p);
+          apart = apart-all (records (drop 6 bs)) [] (steps (records (drop 6 bs)) t) tt;
+          few = omega (arith, number-all (records (drop 6 bs)) [], n, ltb-false 1048576 (length (drop 6 bs) / 6) r);
+          near = ltb-false _ _ u;
+        }
+    go true p true q false r false t false true u e = absurd (omega arith)
+    go true p true q false r false t true b u e = absurd (omega arith)
+    go true p true q false r true t a b u e = absurd (omega arith)
+    go true p true q true r z t a b u e = absurd (omega arith)
+    go true p false q l r z t a b u e = absurd (omega arith)
+    go false p s q l r z t a b u e = absurd (eqb-false _ _ p e)
