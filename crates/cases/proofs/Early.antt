@@ -20,9 +20,8 @@ use Rattle.rules.specs.Banks.{status}
 use Rattle.answers.specs.Answer.{orElse, lowest}
 use Rattle.rules.specs.Rules.{checks, breakAt}
 use Rattle.rules.specs.Deadlines.{late, rule25}
-use Rattle.rules.specs.Verdict.{Outcome, clean, keep, told, recordSays, verdictTo, shown}
+use Rattle.rules.specs.Verdict.{Outcome, clean, keep, told, recordSays, verdictTo, shown, shownVerdict}
 use Rattle.rules.proofs.Numbered.{by-number}
-use Rattle.cases.specs.Case.{Holds, judged}
 
 not-late : (m t : ℕ) (k : Bank) → t ≤ m → late m k t ≡ Fine
 not-late m t Idle l = refl
@@ -49,7 +48,7 @@ module _ (C : Chip) (p : Past) where
       (none-late (C .most) (suc t) 8 (λ n. status C n (upTo (suc t - 1) p) (suc t - 1)) l)
 
 pub judged-early : (h : Header) (bytes : List ℕ) (end : ℕ) (v : Verdict) → leb end (chipOf h .most) ≡ true
-    → shown (early (chipOf h) (reverse (records bytes)) end) (number (reverse (records bytes))) end ≡ v → Holds (judged h bytes end v)
+    → shown (early (chipOf h) (reverse (records bytes)) end) (number (reverse (records bytes))) end ≡ v → shownVerdict (chipOf h) (reverse (records bytes)) end ≡ v
 judged-early h bytes end v l e =
     let p = reverse (records bytes) in
     ap (λ w. shown w (number p) end) (early-verdict (chipOf h) p end (leb-true _ _ l)) ∙ e

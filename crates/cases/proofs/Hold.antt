@@ -1,6 +1,9 @@
 -- The one statement about 01's proved examples: every case of the table holds of the definitions, by computing them.
 -- Assumes nothing.
-use mathlib.Core.Path.{refl}
+use Prim.Native.Nat.{ℕ}
+use Prim.Native.String.{String}
+use mathlib.Core.List.{List}
+use mathlib.Core.Path.{_≡_, refl, ap, _∙_}
 use Rattle.units.specs.Round.{up, down}
 use Rattle.bits.specs.Bits.{word48}
 use Rattle.header.specs.Bins.{binOf}
@@ -18,38 +21,59 @@ use Rattle.rules.specs.Banks.{start, seen}
 use Rattle.answers.specs.Answer.{orElse, lowest}
 use Rattle.rules.specs.Deadlines.{asleep, awakeTo, awakeAt, owedTo, owedAt}
 use Rattle.rules.specs.Verdict.{keep}
-use Rattle.cases.specs.Case.{AllHold}
-use Rattle.cases.specs.Table.{headerP1, bytesP8, bytesP9, bytesP10, table}
-use Rattle.cases.proofs.Running.{far-hold}
+use Rattle.answers.specs.declared.Verdict.{Verdict}
+use Rattle.rules.specs.Past.{edge}
+use Rattle.sections.specs.Recording.{past, recordsRefusal, wholeRefusal, wholeVerdict}
+use Rattle.lines.specs.Line.{text, decimalIn, spaced, cleanWords, brokenWords, verdictWords, verdictLine}
+use Rattle.cases.specs.Case.{Holds, AllHold, judged, printed}
+use Rattle.cases.specs.Table.{headerP1, recorded, bytesP8, bytesP9, bytesP10, broken, clean, table}
+use Rattle.cases.proofs.Running.{judged-whole, far-hold}
 use Rattle.cases.proofs.Early.{early, judged-early}
+
+-- ── P8, P9, P10 ─────────────────────────────────────────────────────────────────────────────
+
+p8 : Holds (judged (recorded bytesP8) 529 (broken 10 7 6 529 5 4))
+unfolding up down binOf headerWord fieldsRefusal headerRefusal word48 clOfCode wrOfCode al spanOf clFits cwlFor allowed0 allowed1 allowed2 allowed recordFields byPins falling rising commandOf chipOf hOf bOf regs start seen orElse lowest asleep awakeTo awakeAt owedTo owedAt keep early recordsRefusal wholeRefusal
+p8 = judged-whole bytesP8 529 _ refl (judged-early headerP1 bytesP8 529 _ refl refl)
+
+p9 : Holds (judged (recorded bytesP9) 530 (clean 7 530))
+unfolding up down binOf headerWord fieldsRefusal headerRefusal word48 clOfCode wrOfCode al spanOf clFits cwlFor allowed0 allowed1 allowed2 allowed recordFields byPins falling rising commandOf chipOf hOf bOf regs start seen orElse lowest asleep awakeTo awakeAt owedTo owedAt keep early recordsRefusal wholeRefusal
+p9 = judged-whole bytesP9 530 _ refl (judged-early headerP1 bytesP9 530 _ refl refl)
+
+p10 : Holds (judged (recorded bytesP10) 539 (broken 5 9 8 539 9 5))
+unfolding up down binOf headerWord fieldsRefusal headerRefusal word48 clOfCode wrOfCode al spanOf clFits cwlFor allowed0 allowed1 allowed2 allowed recordFields byPins falling rising commandOf chipOf hOf bOf regs start seen orElse lowest asleep awakeTo awakeAt owedTo owedAt keep early recordsRefusal wholeRefusal
+p10 = judged-whole bytesP10 539 _ refl (judged-early headerP1 bytesP10 539 _ refl refl)
+
+-- the line of a verdict at the last record's edge
+line-of : (bs : List ℕ) (end : ℕ) (v : Verdict) (line : String) → edge (past bs) ≡ end → Holds (judged bs end v) → verdictLine v ≡ text line
+    → Holds (printed bs line)
+line-of bs end v line at h l = (
+  ap (wholeRefusal bs) at ∙ h .0,
+  ap (λ (e : ℕ). verdictLine (wholeVerdict bs e)) at ∙ ap verdictLine (h .1) ∙ l,
+)
+
+p8-line : Holds (printed (recorded bytesP8) "broken 10 7 6 529 5 4\n")
+unfolding recordFields word48 decimalIn spaced cleanWords brokenWords verdictWords
+p8-line = line-of (recorded bytesP8) 529 _ "broken 10 7 6 529 5 4\n" refl p8 refl
+
+p9-line : Holds (printed (recorded bytesP9) "clean 7 530\n")
+unfolding recordFields word48 decimalIn spaced cleanWords brokenWords verdictWords
+p9-line = line-of (recorded bytesP9) 530 _ "clean 7 530\n" refl p9 refl
+
+p10-line : Holds (printed (recorded bytesP10) "broken 5 9 8 539 9 5\n")
+unfolding recordFields word48 decimalIn spaced cleanWords brokenWords verdictWords
+p10-line = line-of (recorded bytesP10) 539 _ "broken 5 9 8 539 9 5\n" refl p10 refl
+
+-- ── The table ───────────────────────────────────────────────────────────────────────────────
+
+infixr 10 _also_
+_also_ : {A B : Type 0} → A → B → A × B
+a also b = (a, b)
 
 pub examples-hold : AllHold table
 unfolding table up down binOf headerWord fieldsRefusal headerRefusal parsedOf word48 clOfCode wrOfCode al spanOf clFits cwlFor allowed0 allowed1 allowed2 allowed fields0 fieldsOf orderOf recordFields byPins falling rising commandOf chipOf hOf bOf regs start seen orElse lowest asleep awakeTo awakeAt owedTo owedAt keep early
-examples-hold = (
-  refl,
-  (
-    refl,
-    (
-      refl,
-      (
-        refl,
-        (
-          refl,
-          (
-            refl,
-            (
-              (refl, refl),
-              (
-                refl,
-                (
-                  refl,
-                  (refl, (refl, (refl, (refl, (refl, (refl, (refl, (refl, (refl, (refl, (refl, (refl, (refl, (refl, (refl, (refl, (refl, (judged-early headerP1 bytesP8 529 _ refl refl, (judged-early headerP1 bytesP9 530 _ refl refl, (judged-early headerP1 bytesP10 539 _ refl refl, far-hold)))))))))))))))))))),
-                ),
-              ),
-            ),
-          ),
-        ),
-      ),
-    ),
-  ),
-)
+examples-hold =
+    refl also refl also refl also refl also refl also refl also (refl, refl) also refl also refl
+    also refl also refl also refl also refl also refl also refl also refl also refl
+    also refl also refl also refl also refl also refl also refl also refl also refl
+    also refl also p8 also p8-line also p9 also p9-line also p10 also p10-line also far-hold

@@ -20,10 +20,9 @@ use Rattle.records.specs.Command.{byPins, falling, rising, commandOf}
 use Rattle.chip.specs.Chip.{chipOf}
 use Rattle.chip.specs.Latencies.{hOf, bOf}
 use Rattle.answers.specs.declared.Verdict.{Verdict}
-use Rattle.answers.specs.Answer.{orElse, lowest, bytes6}
+use Rattle.answers.specs.Answer.{orElse, lowest}
 use Rattle.running.specs.Breaks.{statusOf, rule2, rule3, waits, spacings}
 use Rattle.running.specs.Marks.{needing, spaced}
-use Rattle.running.specs.Ends.{freshShared, freshRank, verdictOf, endOf, noEnd}
 use Rattle.running.specs.Ends.{freshShared, freshRank, verdictOf, endOf, noEnd}
 use Rattle.judge.specs.Calls.{startOf, sectionOf, closeOf}
 use Rattle.running.specs.Late.{better, soonest, sooner}
@@ -33,32 +32,46 @@ use Rattle.running.specs.Ranges.{lastEdge, banksOk, rankInRange}
 use Rattle.judge.specs.Ranges.{inRange}
 use Rattle.running.specs.Step.{saysBy, turnOf, turnIn, movedOf, stoppedOf, stepOf, soFar}
 use Rattle.rules.specs.Past.{edge, recording}
+use Rattle.rules.specs.Verdict.{shownVerdict}
+use Rattle.sections.specs.Recording.{recordsRefusal, wholeRefusal, wholeVerdict}
 use Rattle.sections.specs.Sections.{refusal}
 use Rattle.sections.proofs.Section.{fits}
 use Rattle.sections.proofs.Sections.{judged-verdict}
 use Rattle.cases.specs.Case.{Holds, judged}
-use Rattle.cases.specs.Table.{headerP1, bytesP12, broken, clean}
+use Rattle.cases.specs.Table.{headerP1, recorded, bytesP12, broken, clean}
 
 pub judged-running :
     (header : List ℕ) (h : Header) → parsedOf header ≡ Taken h → (bytes : List ℕ) → refusal 0 bytes ≡ 0 → (end : ℕ)
     → leb (edge (recording bytes)) end ≡ true → leb end lastEdge ≡ true → (v : Verdict)
-    → closeOf (sectionOf (startOf h) bytes .state) end .end .verdict ≡ v → Holds (judged h bytes end v)
+    → closeOf (sectionOf (startOf h) bytes .state) end .end .verdict ≡ v → shownVerdict (chipOf h) (recording bytes) end ≡ v
 judged-running header h is bytes taken end late within v answer =
     sym (judged-verdict header h is bytes (fits 0 bytes taken) end (leb-true _ _ late) (leb-true _ _ within) .1) ∙ answer
 
-headerP1-taken : parsedOf (bytes6 0x1405DC000000 []) ≡ Taken headerP1
+headerP1-taken : parsedOf (recorded []) ≡ Taken headerP1
 unfolding binOf headerWord fieldsRefusal headerRefusal parsedOf word48
 headerP1-taken = refl
 
+-- a recording of P1's part, by its refusal and by the verdict on its records
+pub judged-whole : (bytes : List ℕ) (end : ℕ) (v : Verdict) → wholeRefusal (recorded bytes) end ≡ 0
+    → shownVerdict (chipOf headerP1) (recording bytes) end ≡ v → Holds (judged (recorded bytes) end v)
+unfolding wholeVerdict headerWord word48
+judged-whole bytes end v taken is = (taken, is)
+
 far : (bytes : List ℕ) → refusal 0 bytes ≡ 0 → (end : ℕ) → leb (edge (recording bytes)) end ≡ true → leb end lastEdge ≡ true → (v : Verdict)
-    → closeOf (sectionOf (startOf headerP1) bytes .state) end .end .verdict ≡ v → Holds (judged headerP1 bytes end v)
-far bytes taken end late within v answer = judged-running (bytes6 0x1405DC000000 []) headerP1 headerP1-taken bytes taken end late within v answer
+    → closeOf (sectionOf (startOf headerP1) bytes .state) end .end .verdict ≡ v → shownVerdict (chipOf headerP1) (recording bytes) end ≡ v
+far bytes taken end late within v answer = judged-running (recorded []) headerP1 headerP1-taken bytes taken end late within v answer
 
 pub far-hold :
-    Holds (judged headerP1 [] 46799 (clean 0 46799)) × (Holds (judged headerP1 [] 46800 (broken 25 0 0 46800 8 9))
-    × (Holds (judged headerP1 bytesP12 46691 (clean 5 46691)) × (Holds (judged headerP1 bytesP12 46692 (broken 24 0 5 46692 46666 46667)) × Unit {0})))
-unfolding up down binOf word48 clOfCode wrOfCode al spanOf clFits cwlFor allowed0 allowed1 allowed2 allowed fieldsOf byPins falling rising commandOf chipOf hOf bOf orElse statusOf lowest rule2 rule3 waits spacings freshShared freshRank sectionOf verdictOf endOf noEnd closeOf better soonest sooner next24 next25 nextLate needing spaced regsNext writtenNext startNow keptNext keptShut banksNext due duesNext actsNext readNext wroteNext shutNext restsNext debtNext markedNext sharedNext banksOk rankInRange inRange saysBy turnOf turnIn movedOf stoppedOf stepOf soFar
+    Holds (judged (recorded []) 46799 (clean 0 46799)) × (Holds (judged (recorded []) 46800 (broken 25 0 0 46800 8 9))
+    × (Holds (judged (recorded bytesP12) 46691 (clean 5 46691)) × (Holds (judged (recorded bytesP12) 46692 (broken 24 0 5 46692 46666 46667)) × Unit {0})))
+unfolding wholeRefusal recordsRefusal headerWord fieldsRefusal headerRefusal up down binOf word48 clOfCode wrOfCode al spanOf clFits cwlFor allowed0 allowed1 allowed2 allowed fieldsOf byPins falling rising commandOf chipOf hOf bOf orElse statusOf lowest rule2 rule3 waits spacings freshShared freshRank sectionOf verdictOf endOf noEnd closeOf better soonest sooner next24 next25 nextLate needing spaced regsNext writtenNext startNow keptNext keptShut banksNext due duesNext actsNext readNext wroteNext shutNext restsNext debtNext markedNext sharedNext banksOk rankInRange inRange saysBy turnOf turnIn movedOf stoppedOf stepOf soFar
 far-hold = (
-  far [] refl 46799 refl refl _ refl,
-  (far [] refl 46800 refl refl _ refl, (far bytesP12 refl 46691 refl refl _ refl, (far bytesP12 refl 46692 refl refl _ refl, tt))),
+  judged-whole [] 46799 _ refl (far [] refl 46799 refl refl _ refl),
+  (
+    judged-whole [] 46800 _ refl (far [] refl 46800 refl refl _ refl),
+    (
+      judged-whole bytesP12 46691 _ refl (far bytesP12 refl 46691 refl refl _ refl),
+      (judged-whole bytesP12 46692 _ refl (far bytesP12 refl 46692 refl refl _ refl), tt),
+    ),
+  ),
 )

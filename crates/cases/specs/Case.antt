@@ -3,7 +3,8 @@
 use Prim.Native.Nat.{ℕ}
 use mathlib.Core.Path.{_≡_}
 use mathlib.Core.Bool.{Bool, true}
-use mathlib.Core.List.{List, [], _∷_, reverse}
+use mathlib.Core.List.{List, [], _∷_}
+use Prim.Native.String.{String}
 use Rattle.header.specs.declared.Header.{Header}
 use Rattle.header.specs.declared.Parsed.the-variants.{Taken}
 use Rattle.header.specs.Bytes.{parsedOf}
@@ -11,10 +12,10 @@ use Rattle.header.specs.Counts.{tRCD, tRP, tRC, tRAS, tRRD, tFAW, tRTP, tWR, tR
 use Rattle.registers.specs.Allowed.{allowed}
 use Rattle.registers.specs.Reading.{fieldsOf}
 use Rattle.bursts.specs.Burst.{orderOf}
-use Rattle.records.specs.Record.{records}
-use Rattle.chip.specs.Chip.{chipOf}
 use Rattle.answers.specs.declared.Verdict.{Verdict}
-use Rattle.rules.specs.Verdict.{shownVerdict}
+use Rattle.rules.specs.Past.{edge}
+use Rattle.sections.specs.Recording.{past, wholeRefusal, wholeVerdict}
+use Rattle.lines.specs.Line.{text, verdictLine}
 
 -- the twelve counts that P1 and P2 list, in their order
 abbrev pub countsOf : Header → List ℕ
@@ -33,8 +34,10 @@ pub data Case : Type 0 where
   permits : (h : Header) (number code : ℕ) (answer : Bool) → Case
   -- the header of six bytes
   opens : (bytes : List ℕ) (h : Header) → Case
-  -- the verdict on a recording: its header, the bytes of its records, its end edge
-  judged : (h : Header) (bytes : List ℕ) (end : ℕ) (verdict : Verdict) → Case
+  -- a whole recording in bytes, header first, closed at an edge: it is not refused, and this is its verdict
+  judged : (recording : List ℕ) (end : ℕ) (verdict : Verdict) → Case
+  -- and the line that is printed of it, closed at its last record's edge
+  printed : (recording : List ℕ) (line : String) → Case
 
 abbrev pub Holds : Case → Type 0
 Holds (counts h clocks) = countsOf h ≡ clocks
@@ -42,7 +45,8 @@ Holds (burst length start kind direction words) = orderOf length start kind dire
 Holds (reads h number code fields) = (allowed h number code ≡ true) × (fieldsOf number code ≡ fields)
 Holds (permits h number code answer) = allowed h number code ≡ answer
 Holds (opens bytes h) = parsedOf bytes ≡ Taken h
-Holds (judged h bytes end verdict) = shownVerdict (chipOf h) (reverse (records bytes)) end ≡ verdict
+Holds (judged bs end verdict) = (wholeRefusal bs end ≡ 0) × (wholeVerdict bs end ≡ verdict)
+Holds (printed bs line) = (wholeRefusal bs (edge (past bs)) ≡ 0) × (verdictLine (wholeVerdict bs (edge (past bs))) ≡ text line)
 
 -- every case of a table holds
 abbrev pub AllHold : List Case → Type 0

@@ -6,7 +6,7 @@ use mathlib.Core.List.{List, [], _∷_}
 use Rattle.header.specs.declared.Header.{Header}
 use Rattle.answers.specs.declared.Verdict.{Verdict}
 use Rattle.answers.specs.Answer.{bytes6}
-use Rattle.cases.specs.Case.{Case, counts, burst, reads, permits, opens, judged}
+use Rattle.cases.specs.Case.{Case, counts, burst, reads, permits, opens, judged, printed}
 
 -- "P1 bin 1, 1500, 1 Gb x8"
 abbrev pub headerP1 : Header
@@ -19,6 +19,10 @@ headerP2 = record { bin = 3; dense = true; wide = true; hot = false; period = re
 -- P7 names no bin: it is said of each
 abbrev pub headerP7 : (bin period : ℕ) → Header
 headerP7 bin period = record { bin = bin; dense = false; wide = false; hot = false; period = record { ps = period } }
+
+-- "P8 header 14 05 DC 00 00 00", and the records behind it
+abbrev pub recorded : (bytes : List ℕ) → List ℕ
+recorded bytes = bytes6 0x1405DC000000 bytes
 
 -- "P8 .. records 000001820010, 000004830000, 000004810000, 000004800B50, 00000C9B0123, 0001F4AB0000, 000004930000"
 abbrev pub firstFive : (last : List ℕ) → List ℕ
@@ -77,16 +81,19 @@ table =
     ∷ permits (headerP7 3 2500) 0 0x0820 true ∷ permits (headerP7 3 2500) 0 0x0830 false
     ∷ permits (headerP7 3 2499) 0 0x0820 false ∷ permits (headerP7 3 2499) 0 0x0830 true
     -- "P8 header 14 05 DC 00 00 00; .. broken 10 7 6 529 5 4"
-    ∷ opens (bytes6 0x1405DC000000 []) headerP1
-    ∷ judged headerP1 bytesP8 529 (broken 10 7 6 529 5 4)
+    ∷ opens (recorded []) headerP1
+    ∷ judged (recorded bytesP8) 529 (broken 10 7 6 529 5 4)
+    ∷ printed (recorded bytesP8) "broken 10 7 6 529 5 4\n"
     -- "P9 .. clean 7 530"
-    ∷ judged headerP1 bytesP9 530 (clean 7 530)
+    ∷ judged (recorded bytesP9) 530 (clean 7 530)
+    ∷ printed (recorded bytesP9) "clean 7 530\n"
     -- "P10 .. broken 5 9 8 539 9 5"
-    ∷ judged headerP1 bytesP10 539 (broken 5 9 8 539 9 5)
+    ∷ judged (recorded bytesP10) 539 (broken 5 9 8 539 9 5)
+    ∷ printed (recorded bytesP10) "broken 5 9 8 539 9 5\n"
     -- "P11 at P1, no record: clean at end 46799, at 46800 broken by 25"
-    ∷ judged headerP1 [] 46799 (clean 0 46799)
-    ∷ judged headerP1 [] 46800 (broken 25 0 0 46800 8 9)
+    ∷ judged (recorded []) 46799 (clean 0 46799)
+    ∷ judged (recorded []) 46800 (broken 25 0 0 46800 8 9)
     -- "P12 P8's first five records: clean at end 46691, broken by 24 at 46692"
-    ∷ judged headerP1 bytesP12 46691 (clean 5 46691)
-    ∷ judged headerP1 bytesP12 46692 (broken 24 0 5 46692 46666 46667)
+    ∷ judged (recorded bytesP12) 46691 (clean 5 46691)
+    ∷ judged (recorded bytesP12) 46692 (broken 24 0 5 46692 46666 46667)
     ∷ []
