@@ -5,7 +5,7 @@ use native.Mathlib.Nat.{add-zero}
 use native.Mathlib.Omega.{arith}
 use mathlib.Core.Bool.{Bool, true, false, cond, _&&_, and-eq-true-iff}
 use mathlib.Core.List.{List, [], _∷_}
-use mathlib.Core.Path.{_≡_, refl, sym, ap, _∙_}
+use mathlib.Core.Path.{_≡_, refl, sym, ap, _∙_, subst}
 use borrow.Author.Tests.{ltb-false, eqb-true}
 use lib.Dec.{eqb, ltb}
 use lib.ListN.{length}
@@ -17,6 +17,7 @@ use Rattle.records.specs.Record.{records, hasZero}
 use Rattle.running.specs.declared.Shared.{Shared}
 use Rattle.running.specs.declared.Rank.{Rank}
 use Rattle.judge.specs.declared.State.{State}
+use Rattle.judge.specs.declared.Opened.{Opened as Opening}
 use Rattle.judge.specs.declared.Taken.{Taken}
 use Rattle.header.specs.declared.Parsed.{Parsed}
 use Rattle.header.specs.declared.Parsed.the-variants.{Taken as TakenHeader, Refused}
@@ -27,7 +28,14 @@ use Rattle.running.specs.Ranges.{limit}
 use Rattle.judge.specs.Ranges.{inRange}
 use Rattle.running.specs.Said.{isClean}
 use Rattle.running.specs.Step.{turnIn, movedOf, stoppedOf, stepOf, foldOf}
-use Rattle.verdict.specs.Reading.{Full}
+use Rattle.verdict.specs.declared.Run.{Run}
+use Rattle.verdict.specs.Program.{openedRun, nextRun}
+use Rattle.verdict.specs.Reading.{Opened, Took}
+
+-- a full section was taken: 1,000 records more, within the limit
+pub record Full (before after : State) : Type 0 where
+  pub more : after .rank .count ≡ before .rank .count + 1000
+  pub within : after .rank .count ≤ limit
 
 module _ (C : Chip) where
   by-cases : (s : Rank) (r : Record) (t : Shared) (v w : Verdict) (x y : Bool)
@@ -77,14 +85,11 @@ module _ (s : State) (bs : List ℕ) (full : length bs ≡ 6000) where
   unfolding sectionOf
   taken-full z = picked (inRange s) (eqb (length bs % 6) 0) (ltb limit (s .rank .count + length bs / 6)) (hasZero (records bs)) refl z
 
--- a section was taken, and it was full
-pub read-full : (s : State) (bs : List ℕ) (t : Taken) (n : ℕ) → t ≡ sectionOf s bs → n ≡ length bs
-    → eqb (t .refused) 0 && eqb n 6000 ≡ true → Full s (t .state)
-read-full s bs t n is size h =
-    let both = and-eq-true-iff (eqb (t .refused) 0) (eqb n 6000) .0 h in
-    let full : length bs ≡ 6000 = sym size ∙ eqb-true n 6000 (both .1) in
-    let taken : sectionOf s bs .refused ≡ 0 = sym (ap (λ (x : Taken). x .refused) is) ∙ eqb-true (t .refused) 0 (both .0) in
-    rw is (taken-full s bs full taken)
+-- a section of some bytes was taken, and it was full
+pub took-full : (s : State) (r : Run) → Took s r → r .more ≡ true → Full s (r .state)
+took-full s r w h =
+    let both = and-eq-true-iff (eqb (sectionOf s (w .0) .refused) 0) (eqb (length (w .0)) 6000) .0 (sym (ap (λ (x : Run). x .more) (w .2)) ∙ h) in
+    subst (λ (x : Run). Full s (x .state)) (sym (w .2)) (taken-full s (w .0) (eqb-true _ _ (both .1)) (eqb-true _ _ (both .0)))
 
 -- opening counts no record
 by-header : (p : Parsed) → openedBy p .state .rank .count ≡ 0
@@ -95,3 +100,20 @@ by-header (Refused n) = refl
 pub none-yet : (bs : List ℕ) → openOf bs .state .rank .count ≡ 0
 unfolding openOf
 none-yet bs = by-header (parsedOf bs)
+
+pub opened-none : (r : Run) → Opened r → r .state .rank .count ≡ 0
+opened-none r w = ap (λ (x : Run). x .state .rank .count) (w .2) ∙ none-yet (w .0)
+
+-- what the code hands on, by what opening and a section answer
+pub opened-run : (bs : List ℕ) (o : Opening) → o ≡ openOf bs → record { refused = o .refused; state = o .state; more = eqb (o .refused) 0 } ≡ openedRun bs
+opened-run bs o e = λ i. record { refused = e i .refused; state = e i .state; more = eqb (e i .refused) 0 }
+
+pub next-run : (s : State) (bs : List ℕ) (t : Taken) → t ≡ sectionOf s bs
+    → record { refused = t .refused; state = t .state; more = eqb (t .refused) 0 && eqb (length bs) 6000 } ≡ nextRun s bs
+next-run s bs t e = λ i. record { refused = e i .refused; state = e i .state; more = eqb (e i .refused) 0 && eqb (length bs) 6000 }
+
+pub opened-by : {r : Run} (bs : List ℕ) → r ≡ openedRun bs → (n : ℕ) → n ≡ length bs → n ≤ 6 → Opened r
+opened-by bs e n size most = (bs, omega arith, e)
+
+pub took-by : (s : State) {r : Run} (bs : List ℕ) → r ≡ nextRun s bs → (n : ℕ) → n ≡ length bs → n ≤ 6000 → Took s r
+took-by s bs e n size most = (bs, omega arith, e)

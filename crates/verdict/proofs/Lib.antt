@@ -1,2 +1,3 @@
--- What the proofs of the program's loop share.
+-- What the proofs of the program's loop share, and what it prints.
 pub mod Counting
+pub mod Program

@@ -5,11 +5,12 @@ use libc::STDIN_FILENO;
 use libc::STDOUT_FILENO;
 use lines::ROOM;
 ghost use mathlib.Core.Path.{_≡_};
-ghost use mathlib.Core.Bool.{true, false};
+ghost use mathlib.Core.Bool.{false};
 ghost use Rattle.io.specs.Counts.{Counts};
 ghost use Rattle.lines.specs.Line.{Printed};
 ghost use Rattle.verdict.specs.Answer.{answerLine};
-ghost use Rattle.verdict.specs.Reading.{Full};
+ghost use Rattle.verdict.specs.Program.{openedRun, nextRun};
+ghost use Rattle.verdict.specs.Reading.{Opened, Took, Ran};
 
 // A section's bytes, and its records.
 const SECTION: usize = 6000;
@@ -27,12 +28,20 @@ fn main() {
     answer(judged(opened()));
 }
 
+// Opening, of the bytes that are there.
 fn opened() -> Run
-    ensures { λ r. ⌜ r .state .rank .count ≡ 0 ⌝ }
+    ensures { λ r. ⌜ Opened r ⌝ }
 {
     let mut header = [0u8; 6];
     let n = io::read_full(STDIN_FILENO, &mut header);
-    let o = State::open(&header[..n]);
+    begun(&header[..n])
+}
+
+// The run after the header's bytes.
+fn begun(header: &[u8]) -> Run
+    ensures { λ r. ⌜ r ≡ openedRun (now (header .entry)) ⌝ }
+{
+    let o = State::open(header);
     let state = o.state;
     Run {
         refused: o.refused,
@@ -44,7 +53,7 @@ fn opened() -> Run
 // Section after section, up to a refusal or the end of the input. Past the limit there was a refusal, so the loop ends.
 fn judged(start: Run) -> Run
     requires { ⌜ start .state .rank .count ≡ 0 ⌝ }
-    ensures { λ r. ⌜ r .more ≡ false ⌝ }
+    ensures { λ r. ⌜ (r .more ≡ false) × Ran start r ⌝ }
 {
     let mut run = start;
     let mut read: u64 = 0;
@@ -58,17 +67,25 @@ fn judged(start: Run) -> Run
     run
 }
 
+// A section, of the bytes that are there.
 fn taken(state: State) -> Run
-    ensures { λ r. ⌜ (r .more ≡ true → Full state (r .state)) ⌝ }
+    ensures { λ r. ⌜ Took state r ⌝ }
 {
     let mut space = [0u8; SECTION];
     let n = io::read_full(STDIN_FILENO, &mut space);
-    let t = state.section(&space[..n]);
-    let next = t.state;
+    next(state, &space[..n])
+}
+
+// The run after a section's bytes.
+fn next(state: State, bytes: &[u8]) -> Run
+    ensures { λ r. ⌜ r ≡ nextRun state (now (bytes .entry)) ⌝ }
+{
+    let t = state.section(bytes);
+    let after = t.state;
     Run {
         refused: t.refused,
-        state: next,
-        more: (t.refused == 0) & (n == SECTION),
+        state: after,
+        more: (t.refused == 0) & (bytes.len() == SECTION),
     }
 }
 

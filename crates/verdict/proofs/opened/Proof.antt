@@ -1,9 +1,7 @@
--- `verdict::opened` meets its contract: opening counts no record.
+-- `verdict::opened` meets its contract: some bytes are opened, six at most.
 -- Assumes nothing.
-use mathlib.Core.Path.{ap, _∙_}
+use Rattle.verdict.proofs.Counting.{opened-by}
 use borrow.Author.Needs.{needs}
-use Rattle.judge.specs.declared.Opened.{Opened}
-use Rattle.verdict.proofs.Counting.{none-yet}
 use Rattle.verdict.proofs.opened.Statement.{statement}
 use Rattle.verdict.proofs.opened.Tie as tie
 
@@ -16,14 +14,14 @@ read-full-requires c κs = search needs
 array-share-prefix-header : tie.Need-array-share-prefix-header
 array-share-prefix-header c = search needs
 
-slice-aggregate-open : tie.Need-slice-aggregate-open
-slice-aggregate-open c = search needs
+slice-aggregate-begun : tie.Need-slice-aggregate-begun
+slice-aggregate-begun c = search needs
 
-open-requires : tie.Need-open-requires
-open-requires c κs = search needs
+begun-requires : tie.Need-begun-requires
+begun-requires c κs = search needs
 
 returns : tie.Need-returns
-returns c = ap (λ (o : Opened). o .state .rank .count) (c .before .before .«open» .ensures) ∙ none-yet _
+returns c = let counted = c .before .before .before .read-full .ensures in opened-by _ (c .begun .ensures) _ (counted .1) (search needs)
 
 pub opened-spec : {M : Type 1} → statement M
 opened-spec =
@@ -32,6 +30,6 @@ opened-spec =
     slice-aggregate-read-full
     read-full-requires
     array-share-prefix-header
-    slice-aggregate-open
-    open-requires
+    slice-aggregate-begun
+    begun-requires
     returns)

@@ -1,7 +1,7 @@
--- `verdict::taken` meets its contract, by what a section ensures.
+-- `verdict::taken` meets its contract: some bytes are a section, 6,000 at most.
 -- Assumes nothing.
+use Rattle.verdict.proofs.Counting.{took-by}
 use borrow.Author.Needs.{needs}
-use Rattle.verdict.proofs.Counting.{read-full}
 use Rattle.verdict.proofs.taken.Statement.{statement}
 use Rattle.verdict.proofs.taken.Tie as tie
 
@@ -14,16 +14,14 @@ read-full-requires c κs = search needs
 array-share-prefix-space : tie.Need-array-share-prefix-space
 array-share-prefix-space c = search needs
 
-slice-aggregate-section : tie.Need-slice-aggregate-section
-slice-aggregate-section c = search needs
+slice-aggregate-next : tie.Need-slice-aggregate-next
+slice-aggregate-next c = search needs
 
-section-requires : tie.Need-section-requires
-section-requires c κs = search needs
+next-requires : tie.Need-next-requires
+next-requires c κs = search needs
 
 returns : tie.Need-returns
-returns c =
-    let s = c .before .before in
-    read-full _ _ _ _ (s .section .ensures) (s .before .before .before .read-full .ensures .1)
+returns c = let counted = c .before .before .before .read-full .ensures in took-by _ _ (c .next .ensures) _ (counted .1) (search needs)
 
 pub taken-spec : {M : Type 1} → statement M
 taken-spec =
@@ -32,6 +30,6 @@ taken-spec =
     slice-aggregate-read-full
     read-full-requires
     array-share-prefix-space
-    slice-aggregate-section
-    section-requires
+    slice-aggregate-next
+    next-requires
     returns)
