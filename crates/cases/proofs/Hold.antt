@@ -22,9 +22,10 @@ use Rattle.answers.specs.Answer.{orElse, lowest}
 use Rattle.rules.specs.Deadlines.{asleep, awakeTo, awakeAt, owedTo, owedAt}
 use Rattle.rules.specs.Verdict.{keep}
 use Rattle.answers.specs.declared.Verdict.{Verdict}
-use Rattle.rules.specs.Past.{edge}
-use Rattle.sections.specs.Recording.{past, recordsRefusal, wholeRefusal, wholeVerdict}
+use Rattle.sections.specs.Recording.{recordsRefusal, wholeRefusal, wholeVerdict}
 use Rattle.lines.specs.Line.{text, decimalIn, spaced, cleanWords, brokenWords, verdictWords, verdictLine}
+use Rattle.prints.specs.Wanted.{firstRefusal, wantedLine}
+use Rattle.prints.proofs.Program.{program-means}
 use Rattle.cases.specs.Case.{Holds, AllHold, judged, printed}
 use Rattle.cases.specs.Table.{headerP1, recorded, bytesP8, bytesP9, bytesP10, broken, clean, table}
 use Rattle.cases.proofs.Running.{judged-whole, far-hold}
@@ -44,24 +45,21 @@ p10 : Holds (judged (recorded bytesP10) 539 (broken 5 9 8 539 9 5))
 unfolding up down binOf headerWord fieldsRefusal headerRefusal word48 clOfCode wrOfCode al spanOf clFits cwlFor allowed0 allowed1 allowed2 allowed recordFields byPins falling rising commandOf chipOf hOf bOf regs start seen orElse lowest asleep awakeTo awakeAt owedTo owedAt keep early recordsRefusal wholeRefusal
 p10 = judged-whole bytesP10 539 _ refl (judged-early headerP1 bytesP10 539 _ refl refl)
 
--- the line of a verdict at the last record's edge
-line-of : (bs : List ℕ) (end : ℕ) (v : Verdict) (line : String) → edge (past bs) ≡ end → Holds (judged bs end v) → verdictLine v ≡ text line
-    → Holds (printed bs line)
-line-of bs end v line at h l = (
-  ap (wholeRefusal bs) at ∙ h .0,
-  ap (λ (e : ℕ). verdictLine (wholeVerdict bs e)) at ∙ ap verdictLine (h .1) ∙ l,
-)
+-- the line that the program prints, by its theorem: that of the verdict
+line-of : (bs : List ℕ) (end : ℕ) (v : Verdict) (line : String) → wantedLine bs ≡ verdictLine (wholeVerdict bs end) → Holds (judged bs end v)
+    → verdictLine v ≡ text line → Holds (printed bs line)
+line-of bs end v line w h l = program-means bs ∙ w ∙ ap verdictLine (h .1) ∙ l
 
 p8-line : Holds (printed (recorded bytesP8) "broken 10 7 6 529 5 4\n")
-unfolding recordFields word48 decimalIn spaced cleanWords brokenWords verdictWords
+unfolding wantedLine firstRefusal wholeVerdict headerWord fieldsRefusal headerRefusal binOf word48 recordFields decimalIn spaced cleanWords brokenWords verdictWords
 p8-line = line-of (recorded bytesP8) 529 _ "broken 10 7 6 529 5 4\n" refl p8 refl
 
 p9-line : Holds (printed (recorded bytesP9) "clean 7 530\n")
-unfolding recordFields word48 decimalIn spaced cleanWords brokenWords verdictWords
+unfolding wantedLine firstRefusal wholeVerdict headerWord fieldsRefusal headerRefusal binOf word48 recordFields decimalIn spaced cleanWords brokenWords verdictWords
 p9-line = line-of (recorded bytesP9) 530 _ "clean 7 530\n" refl p9 refl
 
 p10-line : Holds (printed (recorded bytesP10) "broken 5 9 8 539 9 5\n")
-unfolding recordFields word48 decimalIn spaced cleanWords brokenWords verdictWords
+unfolding wantedLine firstRefusal wholeVerdict headerWord fieldsRefusal headerRefusal binOf word48 recordFields decimalIn spaced cleanWords brokenWords verdictWords
 p10-line = line-of (recorded bytesP10) 539 _ "broken 5 9 8 539 9 5\n" refl p10 refl
 
 -- ── The table ───────────────────────────────────────────────────────────────────────────────

@@ -13,9 +13,9 @@ use Rattle.registers.specs.Allowed.{allowed}
 use Rattle.registers.specs.Reading.{fieldsOf}
 use Rattle.bursts.specs.Burst.{orderOf}
 use Rattle.answers.specs.declared.Verdict.{Verdict}
-use Rattle.rules.specs.Past.{edge}
-use Rattle.sections.specs.Recording.{past, wholeRefusal, wholeVerdict}
-use Rattle.lines.specs.Line.{text, verdictLine}
+use Rattle.sections.specs.Recording.{wholeRefusal, wholeVerdict}
+use Rattle.lines.specs.Line.{text}
+use Rattle.program.specs.Program.{programLine}
 
 -- the twelve counts that P1 and P2 list, in their order
 abbrev pub countsOf : Header → List ℕ
@@ -36,7 +36,7 @@ pub data Case : Type 0 where
   opens : (bytes : List ℕ) (h : Header) → Case
   -- a whole recording in bytes, header first, closed at an edge: it is not refused, and this is its verdict
   judged : (recording : List ℕ) (end : ℕ) (verdict : Verdict) → Case
-  -- and the line that is printed of it, closed at its last record's edge
+  -- the line that the program prints of it
   printed : (recording : List ℕ) (line : String) → Case
 
 abbrev pub Holds : Case → Type 0
@@ -46,7 +46,7 @@ Holds (reads h number code fields) = (allowed h number code ≡ true) × (fields
 Holds (permits h number code answer) = allowed h number code ≡ answer
 Holds (opens bytes h) = parsedOf bytes ≡ Taken h
 Holds (judged bs end verdict) = (wholeRefusal bs end ≡ 0) × (wholeVerdict bs end ≡ verdict)
-Holds (printed bs line) = (wholeRefusal bs (edge (past bs)) ≡ 0) × (verdictLine (wholeVerdict bs (edge (past bs))) ≡ text line)
+Holds (printed bs line) = programLine bs ≡ text line
 
 -- every case of a table holds
 abbrev pub AllHold : List Case → Type 0

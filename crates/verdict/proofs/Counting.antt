@@ -3,7 +3,7 @@
 use Prim.Native.Nat.{ℕ, _+_, _*_, _/_, _%_, _≤_, _<_}
 use native.Mathlib.Nat.{add-zero}
 use native.Mathlib.Omega.{arith}
-use mathlib.Core.Bool.{Bool, true, false, cond, _&&_, and-eq-true-iff}
+use mathlib.Core.Bool.{Bool, true, false, cond, and-eq-true-iff}
 use mathlib.Core.List.{List, [], _∷_}
 use mathlib.Core.Path.{_≡_, refl, sym, ap, _∙_, subst}
 use borrow.Author.Tests.{ltb-false, eqb-true}
@@ -17,8 +17,6 @@ use Rattle.records.specs.Record.{records, hasZero}
 use Rattle.running.specs.declared.Shared.{Shared}
 use Rattle.running.specs.declared.Rank.{Rank}
 use Rattle.judge.specs.declared.State.{State}
-use Rattle.judge.specs.declared.Opened.{Opened as Opening}
-use Rattle.judge.specs.declared.Taken.{Taken}
 use Rattle.header.specs.declared.Parsed.{Parsed}
 use Rattle.header.specs.declared.Parsed.the-variants.{Taken as TakenHeader, Refused}
 use Rattle.header.specs.Bytes.{parsedOf}
@@ -28,8 +26,8 @@ use Rattle.running.specs.Ranges.{limit}
 use Rattle.judge.specs.Ranges.{inRange}
 use Rattle.running.specs.Said.{isClean}
 use Rattle.running.specs.Step.{turnIn, movedOf, stoppedOf, stepOf, foldOf}
-use Rattle.verdict.specs.declared.Run.{Run}
-use Rattle.verdict.specs.Program.{openedRun, nextRun}
+use Rattle.program.specs.declared.Run.{Run}
+use Rattle.program.specs.Program.{openedRun, nextRun}
 use Rattle.verdict.specs.Reading.{Opened, Took}
 
 -- a full section was taken: 1,000 records more, within the limit
@@ -103,14 +101,6 @@ none-yet bs = by-header (parsedOf bs)
 
 pub opened-none : (r : Run) → Opened r → r .state .rank .count ≡ 0
 opened-none r w = ap (λ (x : Run). x .state .rank .count) (w .2) ∙ none-yet (w .0)
-
--- what the code hands on, by what opening and a section answer
-pub opened-run : (bs : List ℕ) (o : Opening) → o ≡ openOf bs → record { refused = o .refused; state = o .state; more = eqb (o .refused) 0 } ≡ openedRun bs
-opened-run bs o e = λ i. record { refused = e i .refused; state = e i .state; more = eqb (e i .refused) 0 }
-
-pub next-run : (s : State) (bs : List ℕ) (t : Taken) → t ≡ sectionOf s bs
-    → record { refused = t .refused; state = t .state; more = eqb (t .refused) 0 && eqb (length bs) 6000 } ≡ nextRun s bs
-next-run s bs t e = λ i. record { refused = e i .refused; state = e i .state; more = eqb (e i .refused) 0 && eqb (length bs) 6000 }
 
 pub opened-by : {r : Run} (bs : List ℕ) → r ≡ openedRun bs → (n : ℕ) → n ≡ length bs → n ≤ 6 → Opened r
 opened-by bs e n size most = (bs, omega arith, e)

@@ -1,3 +1,2 @@
--- What the proofs of the program's loop share, and what it prints.
+-- What the proofs of the program's loop share.
 pub mod Counting
-pub mod Program

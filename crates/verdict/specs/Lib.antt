@@ -1,3 +1,1 @@
-pub mod Answer
-pub mod Program
 pub mod Reading

@@ -7,8 +7,8 @@ use mathlib.Core.Bool.{true}
 use mathlib.Core.List.{List}
 use lib.ListN.{length}
 use Rattle.judge.specs.declared.State.{State}
-use Rattle.verdict.specs.declared.Run.{Run}
-use Rattle.verdict.specs.Program.{openedRun, nextRun}
+use Rattle.program.specs.declared.Run.{Run}
+use Rattle.program.specs.Program.{openedRun, nextRun}
 
 -- opening some bytes, six at most
 abbrev pub Opened : Run → Type 0

@@ -29,9 +29,10 @@ use Rattle.sections.proofs.Openings.{opened-state, taken-sound}
 use Rattle.sections.proofs.Section.{Stands, fits, edge-is, close-is, refused-is}
 use Rattle.sections.proofs.Sections.{stands, stands-more}
 use Rattle.lines.specs.Line.{verdictLine, refusalLine}
-use Rattle.verdict.specs.declared.Run.{Run}
-use Rattle.verdict.specs.Answer.{closingLine, answerLine}
-use Rattle.verdict.specs.Program.{openedRun, nextRun, ranOver, programLine, firstRefusal, wantedLine}
+use Rattle.program.specs.declared.Run.{Run}
+use Rattle.program.specs.Answer.{closingLine, answerLine}
+use Rattle.program.specs.Program.{openedRun, nextRun, ranOver, programLine}
+use Rattle.prints.specs.Wanted.{firstRefusal, wantedLine}
 
 -- a run that goes on, and the line of a run
 abbrev going : State → Run

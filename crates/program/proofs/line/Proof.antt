@@ -1,4 +1,4 @@
--- `verdict::line` meets its contract: the test of each refusal picks the line.
+-- `program::line` meets its contract: the test of each refusal picks the line.
 -- Assumes nothing.
 use Prim.Native.Nat.{ℕ}
 use mathlib.Core.List.{List}
@@ -9,9 +9,9 @@ use Rattle.judge.specs.declared.State.{State}
 use Rattle.judge.specs.declared.Closed.{Closed}
 use Rattle.judge.specs.Calls.{closeOf}
 use Rattle.lines.specs.Line.{Printed}
-use Rattle.verdict.specs.Answer.{closingLine, answerLine}
-use Rattle.verdict.proofs.line.Statement.{statement}
-use Rattle.verdict.proofs.line.Tie as tie
+use Rattle.program.specs.Answer.{closingLine, answerLine}
+use Rattle.program.proofs.line.Statement.{statement}
+use Rattle.program.proofs.line.Tie as tie
 
 -- nothing was refused: the line is that of closing
 closes : (s : State) {refused r : ℕ} {closed : Closed} {before after : List ℕ} → refused ≡ 0 → closed ≡ closeOf s (s .rank .edge)

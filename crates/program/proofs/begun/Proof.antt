@@ -1,9 +1,9 @@
--- `verdict::begun` meets its contract, by what opening ensures.
+-- `program::begun` meets its contract, by what opening ensures.
 -- Assumes nothing.
-use Rattle.verdict.proofs.Counting.{opened-run}
+use Rattle.program.proofs.Runs.{opened-run}
 use borrow.Author.Needs.{needs}
-use Rattle.verdict.proofs.begun.Statement.{statement}
-use Rattle.verdict.proofs.begun.Tie as tie
+use Rattle.program.proofs.begun.Statement.{statement}
+use Rattle.program.proofs.begun.Tie as tie
 
 open-requires : tie.Need-open-requires
 open-requires c κs = search needs

@@ -1,9 +1,9 @@
--- `verdict::next` meets its contract, by what a section ensures.
+-- `program::next` meets its contract, by what a section ensures.
 -- Assumes nothing.
-use Rattle.verdict.proofs.Counting.{next-run}
+use Rattle.program.proofs.Runs.{next-run}
 use borrow.Author.Needs.{needs}
-use Rattle.verdict.proofs.next.Statement.{statement}
-use Rattle.verdict.proofs.next.Tie as tie
+use Rattle.program.proofs.next.Statement.{statement}
+use Rattle.program.proofs.next.Tie as tie
 
 section-requires : tie.Need-section-requires
 section-requires c κs = search needs

@@ -1,0 +1,1 @@
+// What the program prints is the rules' line: theory only, in proofs/.

@@ -1,0 +1,60 @@
+// What the program makes of the bytes that it reads (01, P8): the header's, a section's, and the line that it prints.
+use judge::State;
+use lines::ROOM;
+ghost use mathlib.Core.Path.{_≡_};
+ghost use Rattle.io.specs.Counts.{Counts};
+ghost use Rattle.lines.specs.Line.{Printed};
+ghost use Rattle.program.specs.Answer.{answerLine};
+ghost use Rattle.program.specs.Program.{openedRun, nextRun};
+
+// A section's bytes.
+pub const SECTION: usize = 6000;
+
+// What was refused (0: nothing), the state, and whether there may be more to read.
+pub struct Run {
+    pub refused: u64,
+    pub state: State,
+    pub more: bool,
+}
+
+// The run after the header's bytes.
+pub fn begun(header: &[u8]) -> Run
+    ensures { λ r. ⌜ r ≡ openedRun (now (header .entry)) ⌝ }
+{
+    let o = State::open(header);
+    let state = o.state;
+    Run {
+        refused: o.refused,
+        state: state,
+        more: o.refused == 0,
+    }
+}
+
+// The run after a section's bytes.
+pub fn next(state: State, bytes: &[u8]) -> Run
+    ensures { λ r. ⌜ r ≡ nextRun state (now (bytes .entry)) ⌝ }
+{
+    let t = state.section(bytes);
+    let after = t.state;
+    Run {
+        refused: t.refused,
+        state: after,
+        more: (t.refused == 0) & (bytes.len() == SECTION),
+    }
+}
+
+// Puts the line of what was judged at the start of text, and answers how many bytes it takes.
+pub fn line(run: Run, text: &mut [u8; ROOM]) -> usize
+    ensures { λ r. ⌜ Counts r (now (text .exit)) ⌝ }
+    ensures { λ r. ⌜ Printed (answerLine (run .refused) (run .state)) (now (text .entry)) r (now (text .exit)) ⌝ }
+{
+    if run.refused != 0 {
+        return lines::refusal_line(run.refused, text);
+    }
+    let state = run.state;
+    let c = state.close(state.rank.edge);
+    if c.refused != 0 {
+        return lines::refusal_line(c.refused, text);
+    }
+    lines::verdict_line(c.end.verdict, text)
+}
