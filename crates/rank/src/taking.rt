@@ -11,13 +11,13 @@ ghost use Rattle.running.specs.Ends as ends;
 pub fn take(chip: Chip, s: Rank, bytes: &[u8]) -> Rank
     ensures { λ r. ⌜ r ≡ ends.takenOf chip s (now (bytes .entry)) ⌝ }
 {
-    if !in_range(s) {
-        return s;
-    }
     if bytes.len() % 6 != 0 {
         return s;
     }
     if 1048576 < s.count as u64 + (bytes.len() / 6) as u64 {
+        return s;
+    }
+    if !in_range(s) {
         return s;
     }
     if !is_small(chip) {

@@ -18,7 +18,7 @@ use Rattle.running.proofs.Ranging.{small-test}
 module _ (C : Chip) (small : Small C) (n : Rank) (range : rankInRange n ≡ true) where
   pub taken-folds : (bs : List ℕ) → length bs % 6 ≡ 0 → n .count + length bs / 6 ≤ limit → takenOf C n bs ≡ foldOf C n (records bs)
   unfolding takenOf
-  taken-folds bs sixes room = rw (range, eq-eqb _ _ sixes, le-ltb _ _ room, small-test C small)
+  taken-folds bs sixes room = rw (eq-eqb _ _ sixes, le-ltb _ _ room, range, small-test C small)
 
   pub ended-ends : (t : ℕ) → ltb t (n .edge) || ltb lastEdge t ≡ false → endedOf C n t ≡ endOf C n t
   unfolding endedOf

@@ -51,11 +51,11 @@ freshRank level owed =
 
 -- ── A section ───────────────────────────────────────────────────────────────────────────────
 
--- the rank after a section's records; as it was, where a range, the length, the number of records or a count would let a sum wrap
+-- the rank after a section's records; as it was, where the length, the number of records, a range or a count would let a sum wrap
 unfoldable pub takenOf : Chip → Rank → (bytes : List ℕ) → Rank
 takenOf C n bs =
-    cond (rankInRange n)
-    (cond (eqb (length bs % 6) 0) (cond (ltb limit (n .count + length bs / 6)) n (cond (isSmall C) (foldOf C n (records bs)) n)) n)
+    cond (eqb (length bs % 6) 0)
+    (cond (ltb limit (n .count + length bs / 6)) n (cond (rankInRange n) (cond (isSmall C) (foldOf C n (records bs)) n) n))
     n
 
 -- ── The end ─────────────────────────────────────────────────────────────────────────────────
