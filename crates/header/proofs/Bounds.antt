@@ -34,7 +34,7 @@ pub record Times (b : Bin) : Type 0 where
 pub times : (b : ℕ) → Times (binOf b)
 times = by-bin Times (omega arith) (omega arith) (omega arith) (omega arith)
 
-choice : (b : Bool) (x y m : ℕ) → x ≤ m → y ≤ m → cond b x y ≤ m
+pub choice : (b : Bool) (x y m : ℕ) → x ≤ m → y ≤ m → cond b x y ≤ m
 choice true x y m p q = p
 choice false x y m p q = q
 

@@ -5,14 +5,14 @@ use native.Mathlib.Nat.{max-le, mul-le-mul-left}
 use native.Mathlib.Omega.{arith}
 use mathlib.Core.Path.{_≡_, refl}
 use mathlib.Core.Logic.{⊎-elim}
-use mathlib.Core.Bool.{Bool, true, false, cond}
+use mathlib.Core.Bool.{Bool, true, false}
 use mathlib.Core.List.{[], _∷_, tail}
 use lib.Dec.{eqb, leb}
 use Rattle.units.specs.Round.{down}
 use Rattle.units.proofs.Rounding.{down-greatest}
 use Rattle.header.specs.declared.Header.{Header}
-use Rattle.header.proofs.Bounds.{bounds}
-use Rattle.codes.specs.Codes.{set, bits, burst, al, clOfCode}
+use Rattle.header.proofs.Bounds.{choice, bounds}
+use Rattle.codes.specs.Codes.{bits, burst, al, clOfCode}
 use Rattle.chip.specs.declared.Chip.{Chip}
 use Rattle.chip.specs.declared.Regs.{Regs}
 use Rattle.chip.specs.Chip.{chipOf}
@@ -28,16 +28,13 @@ use Rattle.rules.specs.Rules.{Row, r4, r6, r7, r9, r10, r11, r12r, r12w, r13, r
 use Rattle.rules.specs.Verdict.{Outcome, clean, stop, verdictTo, shown, shownVerdict, Apart}
 use Rattle.rules.proofs.Generic.{decide}
 use Rattle.rules.proofs.Events.{number-le, latest-is}
+use Rattle.rules.proofs.Facts.{burst-bounds}
 use Rattle.means.specs.Partners.{Fourth}
 use Rattle.means.specs.Pairs.{Pair, other-change, in-the-way, lacking, too-soon, precharging, five-acts, no-refresh}
 use Rattle.means.specs.Means.{How, record-did, limit-passed, debt-grew}
 use Rattle.means.proofs.Means.{broken-means, never-fine}
 
 -- ── Latencies ───────────────────────────────────────────────────────────────────────────────
-
-choice : (b : Bool) (x y m : ℕ) → x ≤ m → y ≤ m → cond b x y ≤ m
-choice true x y m p q = p
-choice false x y m p q = q
 
 cl-most : (k : ℕ) → clOfCode k ≤ 12
 unfolding clOfCode
@@ -54,16 +51,14 @@ record Latencies (g : Regs) (a : ℕ) : Type 0 where
   b-low : bOf g a ≤ 4
 
 latencies : (g : Regs) (a : ℕ) → Latencies g a
-unfolding al hOf bOf
+unfolding al hOf
 latencies g a =
     record {
       cl-low = cl-most _;
       al-low = choice (eqb (bits (g .mr1) 3 2) 0) 0 _ 12 (omega arith) (omega (arith, cl-most (bits (g .mr0) 4 3 * 2 + bits (g .mr0) 2 1)));
       cwl-low = omega arith;
       h-low = choice (eqb (burst (g .mr0)) 2) 2 4 4 (omega arith) (omega arith);
-      b-low =
-          choice (eqb (burst (g .mr0)) 0) 4 _ 4 (omega arith)
-          (choice (eqb (burst (g .mr0)) 1) _ 2 4 (choice (set a 12) 4 2 4 (omega arith) (omega arith)) (omega arith));
+      b-low = burst-bounds g a .1;
     }
 
 -- ── Clocks ──────────────────────────────────────────────────────────────────────────────────

@@ -71,7 +71,7 @@ slow-cl n p =
     (one-row n 12 p (span 1070 1250 3 3) _ (λ e l. rw e (omega arith)) (λ l m. absurd (omega arith)) (eqb n 12) refl)
     (eqb n 11) refl) (eqb n 10) refl) (eqb n 9) refl) (eqb n 8) refl) (eqb n 7) refl) (eqb n 6) refl) (eqb n 5) refl
 
-burst-bounds : (g : Regs) (a : ℕ) → (2 ≤ bOf g a) × (bOf g a ≤ 4)
+pub burst-bounds : (g : Regs) (a : ℕ) → (2 ≤ bOf g a) × (bOf g a ≤ 4)
 unfolding bOf
 burst-bounds g a = go (eqb (g .mr0 / 1 % 4) 0) (eqb (g .mr0 / 1 % 4) 1) (eqb (a / 4096 % 2) 1)
   where
