@@ -5,3 +5,4 @@ pub mod Search
 pub mod Rules
 pub mod Deadlines
 pub mod Verdict
+pub mod Waiting

@@ -1,5 +1,6 @@
 pub mod Marks
 pub mod Breaks
+pub mod Waits
 pub mod Fine
 pub mod Next
 pub mod Late
