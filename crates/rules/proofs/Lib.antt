@@ -7,6 +7,7 @@ pub mod Fits
 pub mod Dominate
 pub mod Debts
 pub mod Summary
+pub mod Furthest
 pub mod Moves
 pub mod Status
 pub mod Words
