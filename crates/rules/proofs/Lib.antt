@@ -11,6 +11,7 @@ pub mod Furthest
 pub mod Moves
 pub mod Status
 pub mod Words
+pub mod Waiting
 pub mod InTheWay
 pub mod Agree
 pub mod Numbered
