@@ -97,7 +97,7 @@ or-map : (a x y : Bool) → (x ≡ true → y ≡ true) → a || x ≡ true → 
 or-map true x y f hyp = refl
 or-map false x y f hyp = f hyp
 
-and-true : {a b : Bool} → a ≡ true → b ≡ true → a && b ≡ true
+pub and-true : {a b : Bool} → a ≡ true → b ≡ true → a && b ≡ true
 and-true {b = b} x y = rw x y
 
 pub bank-small : (s : Past) → bankOf s < 8

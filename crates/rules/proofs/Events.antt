@@ -1,6 +1,6 @@
 -- Events of a past: the latest of a kind, the greatest of a kind, and what came between two.
 -- Assumes nothing.
-use Prim.Native.Nat.{ℕ, _≤_, _<_}
+use Prim.Native.Nat.{ℕ, zero, suc, _≤_, _<_}
 use native.Mathlib.Omega.{arith}
 use mathlib.Core.Path.{_≡_, refl, sym, ap, _∙_}
 use mathlib.Core.Logic.{_⊎_, inl, inr, ⊎-elim}
@@ -11,7 +11,7 @@ use borrow.Author.Tests.{leb-true, leb-false, le-leb}
 use Rattle.answers.specs.declared.Break.{Break}
 use Rattle.answers.specs.declared.Break.the-variants.{Fine, Broken}
 use Rattle.records.specs.declared.Record.{Record}
-use Rattle.rules.specs.Past.{Past, edge, number, _∈_, here, there, latest, greatest, Greatest}
+use Rattle.rules.specs.Past.{Past, edge, number, _∈_, here, there, latest, back, greatest, Greatest}
 use Rattle.answers.specs.Answer.{orElse}
 use Rattle.rules.proofs.Generic.{decide, broken-fine}
 
@@ -65,6 +65,17 @@ latest-edge k [] = omega arith
 latest-edge k (r ∷ p) = ⊎-elim
     (λ (y : k (r ∷ p) ≡ true). rw y (omega arith))
     (λ (n : k (r ∷ p) ≡ false). rw n (omega (arith, latest-edge k p)))
+    (decide (k (r ∷ p)))
+
+pub back-edge : (k : Past → Bool) (n : ℕ) (p : Past) → edge (back k n p) ≤ edge p
+back-edge k n [] = omega arith
+back-edge k zero (r ∷ p) = ⊎-elim
+    (λ (y : k (r ∷ p) ≡ true). rw y (omega arith))
+    (λ (z : k (r ∷ p) ≡ false). rw z (omega (arith, back-edge k zero p)))
+    (decide (k (r ∷ p)))
+back-edge k (suc n) (r ∷ p) = ⊎-elim
+    (λ (y : k (r ∷ p) ≡ true). rw y (omega (arith, back-edge k n p)))
+    (λ (z : k (r ∷ p) ≡ false). rw z (omega (arith, back-edge k (suc n) p)))
     (decide (k (r ∷ p)))
 
 -- of an earlier event either nothing of the kind k came since, or an event m of the kind did

@@ -1,14 +1,13 @@
 -- The latest edge that any event of a past asks for: that of the latest event, of the greatest start, of the fourth ACT back.
 -- Assumes nothing.
-use Prim.Native.Nat.{ℕ, zero, suc, _+_, _≤_, _<_, max}
+use Prim.Native.Nat.{ℕ, zero, suc, _+_, _≤_, _<_}
 use native.Mathlib.Omega.{arith}
 use mathlib.Core.Path.{_≡_, refl, sym, ap, _∙_}
-use mathlib.Core.Logic.{_↔_, ⊎-elim}
-use mathlib.Core.Bool.{Bool, true, false, cond}
-use mathlib.Core.List.{[], _∷_, tail}
+use mathlib.Core.Logic.{⊎-elim}
+use mathlib.Core.Bool.{Bool, true, false}
+use mathlib.Core.List.{[], _∷_}
 use lib.Dec.{leb}
 use borrow.Author.Tests.{leb-true, leb-false}
-use Rattle.records.specs.declared.Record.{Record}
 use Rattle.records.specs.declared.Command.the-variants.{Act}
 use Rattle.chip.specs.declared.Chip.{Chip}
 use Rattle.running.specs.declared.Mark.{Mark}
@@ -17,6 +16,7 @@ use Rattle.rules.specs.Past.{Past, edge, is, _∈_, here, there, latest,
 use Rattle.rules.specs.Banks.{start}
 use Rattle.rules.specs.Waiting.{Ask, furthest, byStart, afterFourth, byFourth}
 use Rattle.rules.proofs.Generic.{decide, Dominated}
+use Rattle.rules.proofs.Events.{back-edge}
 use Rattle.rules.proofs.Starts.{start-none}
 use Rattle.rules.proofs.Summary.{mark, startMark}
 
@@ -97,22 +97,15 @@ module _ (C : Chip) where
 
   -- ── The fourth ACT back ───────────────────────────────────────────────────────────────────
 
-  after-most : (k : Past → Bool) (n : ℕ) (p : Past) → afterFourth C (back k n p) ≤ edge p + C .tfaw
-  after-most k n [] = omega arith
-  after-most k zero (r ∷ p) = ⊎-elim
-      (λ (y : k (r ∷ p) ≡ true). rw y (omega arith))
-      (λ (z : k (r ∷ p) ≡ false). rw z (omega (arith, after-most k zero p)))
-      (decide (k (r ∷ p)))
-  after-most k (suc n) (r ∷ p) = ⊎-elim
-      (λ (y : k (r ∷ p) ≡ true). rw y (omega (arith, after-most k n p)))
-      (λ (z : k (r ∷ p) ≡ false). rw z (omega (arith, after-most k (suc n) p)))
-      (decide (k (r ∷ p)))
+  after-most : (g : Past) → afterFourth C g ≤ edge g + C .tfaw
+  after-most [] = omega arith
+  after-most (r ∷ g) = omega arith
 
   -- further back is no later
   after-back : (k : Past → Bool) (n : ℕ) (p : Past) → afterFourth C (back k (suc n) p) ≤ afterFourth C (back k n p)
   after-back k n [] = omega arith
   after-back k zero (r ∷ p) = ⊎-elim
-      (λ (y : k (r ∷ p) ≡ true). rw y (omega (arith, after-most k zero p)))
+      (λ (y : k (r ∷ p) ≡ true). rw y (omega (arith, after-most (back k zero p), back-edge k zero p)))
       (λ (z : k (r ∷ p) ≡ false). rw z (after-back k zero p))
       (decide (k (r ∷ p)))
   after-back k (suc n) (r ∷ p) = ⊎-elim

@@ -12,6 +12,7 @@ pub mod Moves
 pub mod Status
 pub mod Words
 pub mod Waiting
+pub mod Allowing
 pub mod InTheWay
 pub mod Agree
 pub mod Numbered

@@ -1,18 +1,17 @@
 -- The waiting times worked out afresh from what is kept are those that looking back over the whole recording gives; and how a record moves them.
 -- Assumes nothing.
-use Prim.Native.Nat.{ℕ, _+_, _<_, max}
+use Prim.Native.Nat.{ℕ, _<_, max}
 use native.Mathlib.Omega.{arith}
 use mathlib.Core.Path.{_≡_, refl, sym, ap, _∙_}
-use mathlib.Core.Bool.{Bool, _&&_, _||_}
+use mathlib.Core.Bool.{Bool, _||_}
 use mathlib.Core.List.{List, [], _∷_}
 use Rattle.records.specs.declared.Record.{Record}
 use Rattle.records.specs.declared.Command.{Command}
 use Rattle.records.specs.declared.Command.the-variants.{Mrs, Ref, Pre, Act, Wr, Rd, Zq, Nop, Des, Sre, Srx, Low, Bad}
 use Rattle.chip.specs.declared.Chip.{Chip}
-use Rattle.running.specs.declared.Mark.{Mark}
 use Rattle.running.specs.Marks.{needing, as10, as11, as13, as14, as19}
 use Rattle.running.specs.Waits.{ends, marksFor, waitOf}
-use Rattle.rules.specs.Past.{Past, edge, is, on, latest, back, greatest}
+use Rattle.rules.specs.Past.{Past, edge, is, latest, back, greatest}
 use Rattle.rules.specs.Registers.{dllReset}
 use Rattle.rules.specs.Banks.{actOn, closes, shuts, start}
 use Rattle.rules.specs.Rules.{r4, r6, r7, r9, r10, r11, r12r, r12w, r13, r14, r15, r16, r17, r18, r19, r20, r21}
@@ -24,17 +23,17 @@ use Rattle.rules.proofs.Starts.{greatest-latest}
 use Rattle.rules.proofs.Facts.{Sound}
 use Rattle.rules.proofs.Dominate.{need4, need10, need11, need13, need14, need18, need19, dominated-part, dominated4, dominated10, dominated11, dominated13, dominated14, dominated18, dominated19}
 use Rattle.rules.proofs.Summary.{mark, rdOn, wrOn, startMark, readOf, wroteOf, kept, acts, rests, shared}
-use Rattle.rules.proofs.Furthest.{ends-furthest, furthest-start, furthest-fourth}
+use Rattle.rules.proofs.Furthest.{asksFrom, ends-furthest, furthest-start, furthest-fourth}
 use Rattle.rules.proofs.Words.{needing-mark, back-latest, as10-mark, as13-mark, as19-mark, as11-mark, as14-mark}
 
 -- ── Afresh ──────────────────────────────────────────────────────────────────────────────────
 
 module _ (C : Chip) (S : Sound C) (p : Past) (h : Clean C p) where
   -- of a constant need: the latest event of the kind, whatever need it is kept with
-  constant : (n : ℕ) (who : Past → Bool) (need : Past → ℕ) → ends (needing n (mark need (latest who p))) ≡ furthest (record { who = who; until = λ s. edge s + n }) p
+  constant : (n : ℕ) (who : Past → Bool) (need : Past → ℕ) → ends (needing n (mark need (latest who p))) ≡ furthest (asksFrom edge who (λ _. n)) p
   constant n who need = ends-furthest who (λ _. n) p _ (needing-mark n need (latest who p)) (constant-dominated who n p)
 
-  itself : (n : ℕ) (who : Past → Bool) → ends (mark (λ _. n) (latest who p)) ≡ furthest (record { who = who; until = λ s. edge s + n }) p
+  itself : (n : ℕ) (who : Past → Bool) → ends (mark (λ _. n) (latest who p)) ≡ furthest (asksFrom edge who (λ _. n)) p
   itself n who = ends-furthest who (λ _. n) p _ refl (constant-dominated who n p)
 
   -- one line a rule, of the bank b where the rule is of one bank

@@ -5,7 +5,7 @@ use native.Mathlib.Omega.{arith}
 use mathlib.Core.Path.{_≡_, refl, sym, ap, _∙_, fun-ext}
 use mathlib.Core.Logic.{⊎-elim}
 use mathlib.Core.Bool.{Bool, true, false, cond, _&&_, _||_, and-true}
-use mathlib.Core.List.{List, [], _∷_}
+use mathlib.Core.List.{List, [], _∷_, _++_}
 use lib.Dec.{ltb}
 use borrow.Author.Tests.{ltb-true, lt-ltb, le-ltb, ne-eqb}
 use Rattle.answers.specs.declared.Break.{Break}
@@ -20,7 +20,8 @@ use Rattle.running.specs.Breaks as running
 use Rattle.rules.specs.Past.{Past, edge, number, is, on, latest, back}
 use Rattle.answers.specs.Answer.{orElse}
 use Rattle.rules.specs.Search.{short, Spacing, row}
-use Rattle.rules.specs.Rules.{r4, r6, r7, r9, r10, r11, r12r, r12w, r13, r14, r15, r16, r17, r18, r19, r20, r21, r22, rule5, rule8, rule23, spaced, since, fourth}
+use Rattle.rules.specs.Rules.{r22, rule23, spaced, since, fourth}
+use Rattle.rules.specs.Waiting.{spacingRules}
 use Rattle.rules.proofs.Generic.{decide, checkOf, Dominated, edge-reached, latest-only}
 use Rattle.rules.proofs.Events.{latest-is}
 use Rattle.rules.proofs.Clean.{is-other}
@@ -67,10 +68,7 @@ or-fine (Broken k n m f) = refl
 
 -- the checks after rule 3
 abbrev pub spacingChecks : Chip → List (Record → Past → Break)
-spacingChecks C =
-    spaced C r4 ∷ rule5 C ∷ spaced C r6 ∷ spaced C r7 ∷ rule8 C ∷ spaced C r9 ∷ spaced C r10 ∷ spaced C r11 ∷ spaced C r12r ∷ spaced C r12w
-    ∷ spaced C r13 ∷ spaced C r14 ∷ spaced C r15 ∷ spaced C r16 ∷ spaced C r17 ∷ spaced C r18 ∷ spaced C r19 ∷ spaced C r20 ∷ spaced C r21
-    ∷ spaced C r22 ∷ rule23 C ∷ []
+spacingChecks C = spacingRules C ++ (spaced C r22 ∷ rule23 C ∷ [])
 
 -- a rule whose past is dominated: the check of one mark
 pub row-agrees : (R : Spacing) (r : Record) (p : Past) → Dominated edge (R .from (r ∷ p)) (R .need) p

@@ -35,7 +35,7 @@ ofOne [] s = 0
 ofOne (a ∷ rest) s = max (asking (a .who) (a .until) s) (ofOne rest s)
 
 -- the greatest of the banks below n
-abbrev pub ofBanks : (ℕ → ℕ) → ℕ → ℕ
+unfoldable pub ofBanks : (ℕ → ℕ) → ℕ → ℕ
 ofBanks f zero = 0
 ofBanks f (suc n) = max (ofBanks f n) (f n)
 
