@@ -298,12 +298,12 @@ static int take(struct judge *j, const uint8_t *at, const uint8_t *end)
         at += SIX;
         broken = breaks(j, r);
     }
+    number += (uint32_t)((end - at) / SIX);
     for (; at < end; at += SIX) {
         uint32_t step = first_four(at) >> 8;
         if (step == 0)
             return 6;
         edge += step;
-        number++;
     }
     j->edge = edge;
     j->count = number;

@@ -1,5 +1,6 @@
 /* The C judge as a program: a recording on standard input, the header first and then sections of 6,000 bytes, to one line
- * on standard output, as the proved program does it. With the word `state` it prints the size of its state. */
+ * on standard output, as the proved program does it; but it reads several sections at once. With the word `state` it prints
+ * the size of its state. */
 #include "judge.h"
 
 #include <inttypes.h>
