@@ -27,7 +27,7 @@ struct Bank {
 pub struct Driver {
     pub random: Random,
     pub bytes: Vec<u8>,
-    pub now: i64,
+    now: i64,
     registers: Registers,
     banks: [Bank; 8],
     acts: Vec<i64>,
