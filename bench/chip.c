@@ -99,14 +99,45 @@ int code_allowed(const struct header *h, const struct counts *t, unsigned number
     }
 }
 
-void set_registers(struct setting *s, const uint16_t *code)
+static int al_of(const uint16_t *code)
 {
-    int al = code[1] >> 3 & 3;
-    s->cl = cl_of(code[0]);
-    s->al = al == 0 ? 0 : s->cl - al;
-    s->cwl = (code[2] >> 3 & 7) + 5;
-    s->wr = WRITE_RECOVERY[code[0] >> 9 & 7];
-    s->h = (code[0] & 3) == 2 ? 2 : 4;
-    s->b = s->h;
-    s->by_a12 = (code[0] & 3) == 1;
+    int under = code[1] >> 3 & 3;
+    return under == 0 ? 0 : cl_of(code[0]) - under;
+}
+
+int32_t act_to_column(const struct counts *t, const uint16_t *code)
+{
+    int32_t clocks = t->rcd - al_of(code);
+    return clocks < 1 ? 1 : clocks;
+}
+
+/* half: half of the words of a burst. */
+static void read_kind(struct kind *kind, const struct counts *t, const uint16_t *code, int half)
+{
+    int al = al_of(code), cl = cl_of(code[0]), cwl = (code[2] >> 3 & 7) + 5;
+    kind->needs.pre = (uint16_t)(al + t->rtp);
+    kind->needs.other = (uint16_t)(cl - cwl + 2 + half);
+    kind->needs.set = (uint16_t)(al + cl + half);
+    kind->start_from_act = t->ras;
+    kind->start_from_here = al + t->rtp;
+}
+
+static void write_kind(struct kind *kind, const struct counts *t, const uint16_t *code, int half)
+{
+    int cwl = (code[2] >> 3 & 7) + 5, wl = al_of(code) + cwl;
+    kind->needs.pre = (uint16_t)(wl + half + t->wr);
+    kind->needs.other = (uint16_t)(cwl + half + t->wtr);
+    kind->needs.set = 0;
+    kind->start_from_act = 0;
+    kind->start_from_here = wl + half + WRITE_RECOVERY[code[0] >> 9 & 7];
+}
+
+/* A burst is of eight words, of eight or four by A12, or of four; a WR by A12 counts as one of eight. */
+void column_kinds(struct kind *kind, const struct counts *t, const uint16_t *code)
+{
+    int mode = code[0] & 3;
+    read_kind(&kind[0], t, code, mode == 0 ? 4 : 2);
+    read_kind(&kind[1], t, code, mode == 2 ? 2 : 4);
+    write_kind(&kind[2], t, code, mode == 2 ? 2 : 4);
+    kind[3] = kind[2];
 }

@@ -1,29 +1,42 @@
-/* The running judge: what a record leaves behind, the deadlines, opening, a section, closing. */
+/* The running judge: a section's records, what each leaves behind, the deadlines, opening, closing. For each command the
+ * edge is kept from which no rule is in its way; only before it the rules themselves are asked. */
 #include "judge.h"
 
 #include <string.h>
 
-static const int64_t LONG_AGO = -(INT64_C(1) << 60), NEVER = INT64_C(1) << 60;
 static const uint64_t GREATEST_END = UINT64_C(1) << 44;
 
-enum { MOST_DEBT = 9, LEAST_DEBT = -8, DLL_LOCK = 512 };
+enum { MOST_DEBT = 9, LEAST_DEBT = -8 };
+
+static inline int64_t later(int64_t a, int64_t b)
+{
+    return a > b ? a : b;
+}
+
+static inline int64_t sooner(int64_t a, int64_t b)
+{
+    return a < b ? a : b;
+}
 
 /* ---- deadlines */
 
+/* The edge of the soonest one, and the late bank if it is rule 24's. */
 static int64_t soonest_deadline(const struct judge *j, const struct bank **late)
 {
     int64_t soonest = j->cke ? j->debt_due : NEVER;
     int i;
     *late = 0;
-    for (i = 0; i < BANKS; i++)
-        if (j->bank[i].due <= soonest) {
-            soonest = j->bank[i].due;
-            *late = &j->bank[i];
+    for (i = 0; i < BANKS; i++) {
+        const struct bank *b = &j->bank[i];
+        int64_t due = b->start == NEVER || b->late ? b->act.at + j->t.most_ras + 1 : NEVER;
+        if (due <= soonest && due != NEVER) {
+            soonest = due;
+            *late = b;
         }
+    }
     return soonest;
 }
 
-/* Rule 24 if a bank is late, else 25, at this edge. */
 static void say_late(struct judge *j, int64_t edge, const struct bank *late)
 {
     int64_t last = j->edge;
@@ -35,168 +48,266 @@ static void say_late(struct judge *j, int64_t edge, const struct bank *late)
     j->edge = last;
 }
 
-/* ---- what a record leaves behind */
+/* ---- a record */
 
-static struct mark mark(const struct judge *j, int32_t need)
+struct record {
+    enum command command;
+    unsigned ba, a;
+    int64_t edge;
+    uint32_t number;
+};
+
+static struct mark mark(struct record r, int32_t need)
 {
-    struct mark m = {j->edge, j->count, need};
+    struct mark m = {r.edge, r.number, need};
     return m;
 }
 
-static void shut(struct judge *j, struct bank *b, int64_t start)
+static int __attribute__((cold)) rules_break(struct judge *j, struct record r)
 {
-    b->shut = mark(j, j->t.rp);
-    b->shut.at = start;
-    if (start < b->due)
-        b->due = NEVER;
-    if (start >= j->shut.at)
-        j->shut = b->shut;
+    j->edge = r.edge;
+    j->count = r.number;
+    return breaks_a_rule(j, r.command, r.ba, r.a);
 }
 
-static void after_act(struct judge *j, struct bank *b, unsigned a)
+/* A deadline at the record's own edge comes after the rules, and a REF is still in time for rule 25. */
+static int __attribute__((cold)) deadline_breaks(struct judge *j, struct record r)
 {
-    int32_t need = j->t.rcd - j->set.al;
-    b->act = mark(j, need < 1 ? 1 : need);
-    b->row = (uint16_t)a;
-    b->due = j->edge + j->t.most_ras + 1;
+    const struct bank *late;
+    int64_t due = soonest_deadline(j, &late);
+    j->soonest = sooner(due, r.edge + j->t.most_ras + 1);
+    if (due > r.edge || (due == r.edge && !late && r.command == REF))
+        return 0;
+    if (due < r.edge || !rules_break(j, r))
+        say_late(j, due, late);
+    return 1;
+}
+
+static inline void shut(struct judge *j, struct bank *b, int64_t start, uint32_t number)
+{
+    b->start = start;
+    b->shut_by = number;
+    b->act_from = later(start + j->t.rp, b->act.at + j->t.rc);
+    b->column_from = NEVER;
+}
+
+static inline int activate(struct judge *j, struct bank *b, struct record r)
+{
+    if (r.edge < b->act_from || r.edge < j->act_from || r.edge < j->quiet) {
+        if (rules_break(j, r))
+            return 1;
+        column_kinds(j->kind, &j->t, j->code);
+        j->to_column = act_to_column(&j->t, j->code);
+    }
+    b->act = mark(r, j->to_column);
+    b->row = (uint16_t)r.a;
+    b->start = b->act_from = NEVER;
+    b->column_from = r.edge + j->to_column;
+    b->pre_from = r.edge + j->t.ras;
     j->acts[j->oldest] = b->act;
     j->oldest = (j->oldest + 1) % 4;
-    if (b->due < j->soonest)
-        j->soonest = b->due;
+    j->act_from = later(r.edge + j->t.rrd, j->acts[j->oldest].at + j->t.faw);
+    return 0;
 }
 
-static void after_read(struct judge *j, struct bank *b, unsigned a)
+static inline int column(struct judge *j, struct bank *b, struct record r)
 {
-    const struct setting *s = &j->set;
-    int32_t words = s->by_a12 && (a & A12) == 0 ? 2 : s->b;
-    j->read = b->read = mark(j, s->al + j->t.rtp);
-    j->read_to_write = s->cl - s->cwl + 2 + words;
-    j->read_to_set = s->al + s->cl + words;
-    if ((a & A10) != 0) {
-        int64_t by_act = b->act.at + j->t.ras, by_read = j->edge + s->al + j->t.rtp;
-        shut(j, b, by_act > by_read ? by_act : by_read);
+    enum direction d = (enum direction)(RD - r.command);
+    const struct kind *kind = &j->kind[2 * d + (r.a >> 12 & 1)];
+    if ((r.edge < b->column_from || r.edge < j->column_from[d] || r.edge < j->quiet) && rules_break(j, r))
+        return 1;
+    b->column[d].at = r.edge;
+    b->column[d].needs = kind->needs;
+    b->column[d].number = r.number;
+    b->pre_from = later(b->pre_from, r.edge + kind->needs.pre);
+    j->latest[d] = r.ba;
+    j->column_from[d] = r.edge + SAME_TO_SAME;
+    j->column_from[1 - d] = later(j->column_from[1 - d], r.edge + kind->needs.other);
+    if ((r.a & A10) != 0) {
+        int64_t start = later(b->act.at + kind->start_from_act, r.edge + kind->start_from_here);
+        shut(j, b, start, r.number);
+        b->pre_from = later(b->pre_from, start);
+        b->late = start > b->act.at + j->t.most_ras;
     }
+    return 0;
 }
 
-static void after_write(struct judge *j, struct bank *b, unsigned a)
+static inline int precharge(struct judge *j, struct bank *b, struct record r)
 {
-    const struct setting *s = &j->set;
-    j->wrote = b->wrote = mark(j, s->al + s->cwl + s->h + j->t.wr);
-    j->write_to_read = s->cwl + s->h + j->t.wtr;
-    if ((a & A10) != 0)
-        shut(j, b, j->edge + s->al + s->cwl + s->h + s->wr);
+    if ((r.edge < b->pre_from || r.edge < j->quiet) && rules_break(j, r))
+        return 1;
+    shut(j, b, r.edge, r.number);
+    return 0;
 }
 
-static void after_precharge(struct judge *j, unsigned ba, unsigned a)
+static inline int precharge_all(struct judge *j, struct record r)
 {
+    int64_t from = j->quiet;
     int i;
-    if ((a & A10) == 0) {
-        shut(j, &j->bank[ba], j->edge);
-        return;
-    }
     for (i = 0; i < BANKS; i++)
-        shut(j, &j->bank[i], j->edge);
+        from = later(from, j->bank[i].pre_from);
+    if (r.edge < from && rules_break(j, r))
+        return 1;
+    for (i = 0; i < BANKS; i++)
+        shut(j, &j->bank[i], r.edge, r.number);
+    return 0;
+}
+
+static inline int64_t all_idle_from(const struct judge *j)
+{
+    int64_t start = j->bank[0].start;
+    int i;
+    for (i = 1; i < BANKS; i++)
+        start = later(start, j->bank[i].start);
+    return start + j->t.rp;
+}
+
+static inline int64_t read_out(const struct judge *j)
+{
+    const struct column *read = &j->bank[j->latest[READ]].column[READ];
+    return read->at + read->needs.set;
+}
+
+static inline void hold_all(struct judge *j, int64_t edge)
+{
+    j->quiet = j->set_from = edge;
 }
 
 /* Debt is 9 at debt_due, and one less for each interval before it. */
-static void after_refresh(struct judge *j)
+static inline int refresh(struct judge *j, struct record r)
 {
-    j->ref = mark(j, j->t.rfc);
+    if ((r.edge < all_idle_from(j) || r.edge < j->quiet) && rules_break(j, r))
+        return 1;
+    j->ref = mark(r, j->t.rfc);
     j->refresh_owed = 0;
-    if (j->debt_due - j->edge <= (MOST_DEBT - LEAST_DEBT - 1) * (int64_t)j->t.refi)
+    hold_all(j, r.edge + j->t.rfc);
+    if (j->debt_due - r.edge <= (MOST_DEBT - LEAST_DEBT - 1) * (int64_t)j->t.refi)
         j->debt_due += j->t.refi;
+    return 0;
 }
 
-static void after_mode_set(struct judge *j, unsigned number, unsigned code)
+static inline int calibrate(struct judge *j, struct record r)
 {
-    j->mrs = mark(j, j->t.mod);
-    j->code[number] = (uint16_t)code;
-    j->written |= 1u << number;
-    if (number == 0 && (code >> 8 & 1) == 1) {
+    int32_t need = (r.a & A10) != 0 ? j->t.zq_long : j->t.zq_short;
+    if ((r.edge < all_idle_from(j) || r.edge < j->quiet) && rules_break(j, r))
+        return 1;
+    j->zq = mark(r, need);
+    hold_all(j, r.edge + need);
+    return 0;
+}
+
+/* What follows from the registers is worked out at the next ACT. */
+static inline int set_mode(struct judge *j, struct record r)
+{
+    if ((r.edge < all_idle_from(j) || r.edge < j->set_from || r.edge < read_out(j) ||
+         !code_allowed(&j->header, &j->t, r.ba, r.a)) &&
+        rules_break(j, r))
+        return 1;
+    j->mrs = mark(r, j->t.mod);
+    j->quiet = r.edge + j->t.mod;
+    j->set_from = r.edge + MRS_TO_MRS;
+    j->act_from = NEVER;
+    j->code[r.ba] = (uint16_t)r.a;
+    j->written |= 1u << r.ba;
+    if (r.ba == 0 && (r.a >> 8 & 1) == 1) {
         j->written |= DLL_RESET;
-        j->reset = mark(j, DLL_LOCK);
+        j->reset = mark(r, DLL_LOCK);
+        j->column_from[READ] = r.edge + DLL_LOCK;
     }
-    set_registers(&j->set, j->code);
+    return 0;
 }
 
-static void fall_asleep(struct judge *j)
+static inline int fall_asleep(struct judge *j, struct record r)
 {
-    j->slept = mark(j, j->t.cke + 1);
-    j->debt_due -= j->edge;
+    if ((r.edge < all_idle_from(j) || r.edge < j->quiet || r.edge < read_out(j) || j->refresh_owed) && rules_break(j, r))
+        return 1;
+    j->slept = mark(r, j->t.cke + 1);
+    j->debt_due -= r.edge;
+    j->cke = 0;
+    return 0;
 }
 
-static void wake(struct judge *j)
+static inline int wake(struct judge *j, struct record r)
 {
-    j->woke = mark(j, j->t.xs);
-    j->reset = mark(j, DLL_LOCK);
+    if (r.edge < j->slept.at + j->slept.need && rules_break(j, r))
+        return 1;
+    j->woke = mark(r, j->t.xs);
+    j->reset = mark(r, DLL_LOCK);
     j->refresh_owed = 1;
-    j->debt_due += j->edge;
-    if (j->debt_due < j->soonest)
-        j->soonest = j->debt_due;
+    hold_all(j, r.edge + j->t.xs);
+    if (j->column_from[READ] != NEVER)
+        j->column_from[READ] = r.edge + DLL_LOCK;
+    j->debt_due += r.edge;
+    j->soonest = sooner(j->soonest, j->debt_due);
+    j->cke = 1;
+    return 0;
 }
 
-static void remember(struct judge *j, enum command command, unsigned ba, unsigned a)
+/* By CKE before; CKE now, CS, RAS, CAS, WE. DES, and whatever comes while CKE stays low, is as good as NOP. */
+#define EIGHT(command) command, command, command, command, command, command, command, command
+static const uint8_t COMMAND[2][32] = {
+    {EIGHT(NOP), EIGHT(NOP),
+     FORBIDDEN, FORBIDDEN, FORBIDDEN, FORBIDDEN, FORBIDDEN, FORBIDDEN, FORBIDDEN, SRX, EIGHT(SRX)},
+    {FORBIDDEN, SRE, FORBIDDEN, FORBIDDEN, FORBIDDEN, FORBIDDEN, FORBIDDEN, FORBIDDEN, EIGHT(FORBIDDEN),
+     MRS, REF, PRE, ACT, WR, RD, ZQ, NOP, EIGHT(NOP)},
+};
+
+static inline int breaks(struct judge *j, struct record r)
 {
-    switch (command) {
-    case ACT: after_act(j, &j->bank[ba], a); break;
-    case RD: after_read(j, &j->bank[ba], a); break;
-    case WR: after_write(j, &j->bank[ba], a); break;
-    case PRE: after_precharge(j, ba, a); break;
-    case REF: after_refresh(j); break;
-    case MRS: after_mode_set(j, ba, a); break;
-    case ZQ: j->zq = mark(j, (a & A10) != 0 ? j->t.zq_long : j->t.zq_short); break;
-    case SRE: fall_asleep(j); break;
-    case SRX: wake(j); break;
-    default: break;
+    struct bank *b = &j->bank[r.ba];
+    if (r.edge >= j->soonest && deadline_breaks(j, r))
+        return 1;
+    switch (r.command) {
+    case RD: case WR: return column(j, b, r);
+    case ACT: return activate(j, b, r);
+    case PRE: return (r.a & A10) != 0 ? precharge_all(j, r) : precharge(j, b, r);
+    case NOP: return 0;
+    case REF: return refresh(j, r);
+    case MRS: return set_mode(j, r);
+    case ZQ: return calibrate(j, r);
+    case SRE: return fall_asleep(j, r);
+    case SRX: return wake(j, r);
+    default: return rules_break(j, r);
     }
 }
 
-/* ---- a record */
+/* ---- a section */
 
-static enum command command_of(int before, int now, unsigned pins)
+/* Step, levels and BA. */
+static inline uint32_t first_four(const uint8_t *six)
 {
-    enum command high = pins < 8 ? (enum command)pins : DES;
-    if (before && now)
-        return high;
-    if (!before && !now)
-        return LOW;
-    if (before)
-        return high == REF ? SRE : FORBIDDEN;
-    return high == NOP || high == DES ? SRX : FORBIDDEN;
+    return (uint32_t)six[0] << 24 | (uint32_t)six[1] << 16 | (uint32_t)six[2] << 8 | six[3];
 }
 
-static void judge_record(struct judge *j, const uint8_t *six)
+/* Judges up to the end or to the first break, then only counts. 6 where a step is 0, with a state that is of no use. */
+static int take(struct judge *j, const uint8_t *at, const uint8_t *end)
 {
-    const struct bank *late = 0;
-    unsigned ba = six[3] & 7, a = (unsigned)six[4] << 8 | six[5];
-    int cke = six[3] >> 7;
-    enum command command;
-    j->edge += (int64_t)six[0] << 16 | (int64_t)six[1] << 8 | six[2];
-    j->count++;
-    if (j->first.broken)
-        return;
-    if (j->edge >= j->soonest) {
-        j->soonest = soonest_deadline(j, &late);
-        if (j->soonest < j->edge) {
-            say_late(j, j->soonest, late);
-            return;
-        }
-        if (j->soonest > j->edge)
-            late = 0;
+    int64_t edge = j->edge;
+    uint32_t number = j->count;
+    int broken = j->first.broken;
+    while (at < end && !broken) {
+        uint32_t four = first_four(at);
+        struct record r;
+        if (four >> 8 == 0)
+            return 6;
+        r.command = (enum command)COMMAND[j->cke][four >> 3 & 31];
+        r.ba = four & 7;
+        r.a = (unsigned)at[4] << 8 | at[5];
+        r.edge = edge += four >> 8;
+        r.number = ++number;
+        at += SIX;
+        broken = breaks(j, r);
     }
-    command = command_of(j->cke, cke, six[3] >> 3 & 15);
-    if (breaks_a_rule(j, command, ba, a))
-        return;
-    if (late) {
-        say_late(j, j->edge, late);
-        return;
+    number += (uint32_t)((end - at) / SIX);
+    for (; at < end; at += SIX) {
+        uint32_t step = first_four(at) >> 8;
+        if (step == 0)
+            return 6;
+        edge += step;
     }
-    if (j->cke && j->debt_due == j->edge && command != REF) {
-        say_late(j, j->edge, 0);
-        return;
-    }
-    remember(j, command, ba, a);
-    j->cke = cke;
+    j->edge = edge;
+    j->count = number;
+    return 0;
 }
 
 /* ---- calls */
@@ -204,6 +315,8 @@ static void judge_record(struct judge *j, const uint8_t *six)
 int judge_open(struct judge *j, const uint8_t *header, size_t length)
 {
     struct mark none = {LONG_AGO, 0, 0};
+    struct column no_column = {LONG_AGO, {0, 0, 0, 0}, 0};
+    struct bank idle = {LONG_AGO, NEVER, LONG_AGO, LONG_AGO, none, {no_column, no_column}, 0, 0, 0};
     struct header h;
     int i, refused = length != SIX ? 1 : read_header(&h, header);
     if (refused)
@@ -211,31 +324,26 @@ int judge_open(struct judge *j, const uint8_t *header, size_t length)
     memset(j, 0, sizeof *j);
     j->header = h;
     count_clocks(&j->t, &h);
-    for (i = 0; i < BANKS; i++) {
-        struct bank idle = {none, none, none, none, NEVER, 0};
+    for (i = 0; i < BANKS; i++)
         j->bank[i] = idle;
-    }
     for (i = 0; i < 4; i++)
         j->acts[i] = none;
-    j->read = j->wrote = j->shut = j->ref = j->mrs = j->zq = j->reset = j->woke = j->slept = none;
+    j->ref = j->mrs = j->zq = j->reset = j->woke = j->slept = none;
+    j->quiet = j->set_from = j->column_from[WRITE] = LONG_AGO;
+    j->act_from = j->column_from[READ] = NEVER;
     j->cke = 1;
-    j->debt_due = j->soonest = MOST_DEBT * (int64_t)j->t.refi;
+    j->debt_due = MOST_DEBT * (int64_t)j->t.refi;
+    j->soonest = sooner(j->debt_due, j->t.most_ras + 1);
     return 0;
 }
 
 int judge_section(struct judge *j, const uint8_t *bytes, size_t length)
 {
-    size_t i;
-    if (length % SIX != 0)
-        return 5;
-    if (length / SIX > MOST_RECORDS - j->count)
-        return 7;
-    for (i = 0; i < length; i += SIX)
-        if ((bytes[i] | bytes[i + 1] | bytes[i + 2]) == 0)
-            return 6;
-    for (i = 0; i < length; i += SIX)
-        judge_record(j, bytes + i);
-    return 0;
+    struct judge before = *j;
+    int refused = length % SIX != 0 ? 5 : length / SIX > MOST_RECORDS - j->count ? 7 : take(j, bytes, bytes + length);
+    if (refused)
+        *j = before;
+    return refused;
 }
 
 int judge_close(const struct judge *j, int64_t end, struct verdict *verdict)

@@ -8,6 +8,9 @@
 
 enum { BANKS = 8, SIX = 6, VERDICT_BYTES = 20, MOST_RECORDS = 1048576 };
 
+/* No wait added to these wraps. */
+static const int64_t LONG_AGO = -(INT64_C(1) << 60), NEVER = INT64_C(1) << 60;
+
 struct header {
     int bin, density, width, hot, period;
 };
@@ -17,24 +20,42 @@ struct counts {
     int32_t rcd, rp, rc, ras, rrd, faw, cke, rtp, wtr, wr, mod, rfc, xs, zq_long, zq_short, most_ras, refi;
 };
 
-/* What the registers in force set, and the spacings that follow from it. by_a12: A12 = 0 chops a burst to four. */
-struct setting {
-    int32_t cl, al, cwl, wr, h, b;
-    int by_a12;
+/* The clocks that a RD or WR needs to a PRE of its bank, to a column of the other direction, and a RD to MRS or SRE. */
+struct needs {
+    uint16_t pre, other, set, none;
 };
 
-/* A record that a rule counts from (or the start of its precharge), its number, the clocks needed. */
+/* What a RD or WR of one kind leaves under the registers in force. Its own precharge starts at the later of so many clocks
+ * from ACT and so many from itself. */
+struct kind {
+    struct needs needs;
+    int32_t start_from_act, start_from_here;
+};
+
+/* A record that a rule counts from, its number, the clocks needed. */
 struct mark {
     int64_t at;
     uint32_t number;
     int32_t need;
 };
 
-/* due: the edge at which rule 24 breaks. */
+struct column {
+    int64_t at;
+    struct needs needs;
+    uint32_t number;
+};
+
+enum direction { READ, WRITE };
+
+/* The edges from which the rules that look at the bank alone let ACT, a column and PRE pass. start: of the latest
+ * precharge, NEVER while the bank is open; shut_by: its record. late: it starts after rule 24's limit. */
 struct bank {
-    struct mark act, read, wrote, shut;
-    int64_t due;
+    int64_t act_from, column_from, pre_from, start;
+    struct mark act;
+    struct column column[2];
+    uint32_t shut_by;
     uint16_t row;
+    uint16_t late;
 };
 
 struct verdict {
@@ -46,20 +67,24 @@ struct verdict {
 struct judge {
     struct header header;
     struct counts t;
-    struct setting set;
     int64_t edge;
     uint32_t count;
-    struct verdict first;
+    int cke;
+    int64_t soonest; /* no deadline is sooner */
+    int64_t quiet;   /* from here on rules 15, 17, 18 and 21 let every command pass */
+    int64_t act_from, column_from[2], set_from; /* as far as the rules look at all banks; NEVER of ACT after an MRS */
+    struct kind kind[4]; /* RD with A12 low, RD with A12 high, WR, WR */
+    int32_t to_column;
     struct bank bank[BANKS];
-    struct mark acts[4]; /* the latest four, oldest at `oldest` */
+    struct mark acts[4]; /* the latest four, the oldest at `oldest` */
     unsigned oldest;
-    struct mark read, wrote, shut, ref, mrs, zq, reset, woke, slept;
-    int32_t read_to_write, read_to_set, write_to_read;
-    uint16_t code[4];
-    unsigned written; /* a bit for each register, and one for a DLL reset */
-    int cke, refresh_owed;
+    unsigned latest[2]; /* the bank of the latest RD and of the latest WR */
+    struct mark ref, mrs, zq, reset, woke, slept;
     int64_t debt_due; /* the edge at which rule 25 breaks; while asleep what is left to it */
-    int64_t soonest;  /* no deadline is sooner */
+    unsigned written; /* a bit for each register, and one for a DLL reset */
+    uint16_t code[4];
+    int refresh_owed;
+    struct verdict first;
 };
 
 /* Each answers 0 or the number of a refusal, and a refused call alters nothing. */
@@ -72,12 +97,13 @@ uint32_t judge_whole(const uint8_t *recording, size_t length, uint64_t end, uint
 int read_header(struct header *h, const uint8_t *six);
 void count_clocks(struct counts *t, const struct header *h);
 int code_allowed(const struct header *h, const struct counts *t, unsigned number, unsigned code);
-void set_registers(struct setting *s, const uint16_t *code);
+int32_t act_to_column(const struct counts *t, const uint16_t *code);
+void column_kinds(struct kind *kind, const struct counts *t, const uint16_t *code);
 
 /* rules.c: rules 1 to 23 at the latest record; 1 if one is broken, which is then `first`. */
-enum command { MRS, REF, PRE, ACT, WR, RD, ZQ, NOP, DES, SRE, SRX, LOW, FORBIDDEN };
-enum { DLL_RESET = 1 << 4, ALL_WRITTEN = 15, A10 = 1 << 10, A12 = 1 << 12 };
-int breaks_a_rule(struct judge *j, enum command command, unsigned ba, unsigned a);
-int say(struct judge *j, int rule, uint32_t record, uint32_t partner, int64_t needed, int64_t found);
+enum command { MRS, REF, PRE, ACT, WR, RD, ZQ, NOP, SRE, SRX, FORBIDDEN };
+enum { DLL_RESET = 1 << 4, ALL_WRITTEN = 15, DLL_LOCK = 512, MRS_TO_MRS = 4, SAME_TO_SAME = 4, A10 = 1 << 10 };
+int breaks_a_rule(struct judge *j, enum command command, unsigned ba, unsigned a) __attribute__((cold));
+void say(struct judge *j, int rule, uint32_t record, uint32_t partner, int64_t needed, int64_t found);
 
 #endif

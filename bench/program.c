@@ -1,12 +1,13 @@
 /* The C judge as a program: a recording on standard input, the header first and then sections of 6,000 bytes, to one line
- * on standard output, as the proved program does it. With the word `state` it prints the size of its state. */
+ * on standard output, as the proved program does it; but it reads several sections at once. With the word `state` it prints
+ * the size of its state. */
 #include "judge.h"
 
 #include <inttypes.h>
 #include <stdio.h>
 #include <unistd.h>
 
-enum { SECTION = 6000 };
+enum { SECTION = 6000, AT_ONCE = 32 * SECTION };
 
 /* As many bytes as there are, up to the length. */
 static size_t read_full(uint8_t *bytes, size_t length)
@@ -21,17 +22,25 @@ static size_t read_full(uint8_t *bytes, size_t length)
     return at;
 }
 
+static int judge_sections(struct judge *j, const uint8_t *bytes, size_t length)
+{
+    int refused = 0;
+    size_t at;
+    for (at = 0; at < length && !refused; at += SECTION)
+        refused = judge_section(j, bytes + at, length - at < SECTION ? length - at : SECTION);
+    return refused;
+}
+
 static int judge_input(struct verdict *v)
 {
     static struct judge j;
-    static uint8_t space[SECTION];
-    size_t n = read_full(space, SIX);
-    int refused = judge_open(&j, space, n);
-    do {
-        n = refused ? 0 : read_full(space, SECTION);
-        if (!refused)
-            refused = judge_section(&j, space, n);
-    } while (n == SECTION);
+    static uint8_t space[AT_ONCE];
+    int refused = judge_open(&j, space, read_full(space, SIX));
+    size_t n = AT_ONCE;
+    while (!refused && n == AT_ONCE) {
+        n = read_full(space, AT_ONCE);
+        refused = judge_sections(&j, space, n);
+    }
     return refused ? refused : judge_close(&j, j.edge, v);
 }
 

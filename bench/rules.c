@@ -1,56 +1,72 @@
-/* Rules 1 to 23 at a record, the lowest first. Of each kind of earlier record only the latest is looked at: in a recording
- * that is clean so far, no older one asks for a later edge. */
+/* Rules 1 to 23 at a record, the lowest first, asked where a kept edge says that one of them may be broken. Of each kind of
+ * earlier record only the latest is looked at: in a recording that is clean so far, no older one asks for a later edge. */
 #include "judge.h"
 
-int say(struct judge *j, int rule, uint32_t record, uint32_t partner, int64_t needed, int64_t found)
+void say(struct judge *j, int rule, uint32_t record, uint32_t partner, int64_t needed, int64_t found)
 {
     struct verdict v = {1, rule, record, partner, j->edge, needed, found};
     j->first = v;
-    return 1;
 }
 
 static int without_clocks(struct judge *j, int rule, uint32_t partner)
 {
-    return say(j, rule, j->count, partner, 0, 0);
+    say(j, rule, j->count, partner, 0, 0);
+    return 1;
 }
 
-/* A mark of no record lies far back, and no spacing from it is too short. */
-static inline int soon_for(struct judge *j, int rule, const struct mark *m, int64_t needed)
+/* What no record was yet lies far back, and no spacing from it is too short. */
+static int soon_after(struct judge *j, int rule, int64_t at, uint32_t number, int64_t needed)
 {
-    int64_t found = j->edge - m->at;
-    return found < needed && say(j, rule, j->count, m->number, needed, found);
+    int64_t found = j->edge - at;
+    if (found >= needed)
+        return 0;
+    say(j, rule, j->count, number, needed, found);
+    return 1;
 }
 
-static inline int soon(struct judge *j, int rule, const struct mark *m)
+static int soon_for(struct judge *j, int rule, const struct mark *m, int64_t needed)
+{
+    return soon_after(j, rule, m->at, m->number, needed);
+}
+
+static int soon(struct judge *j, int rule, const struct mark *m)
 {
     return soon_for(j, rule, m, m->need);
 }
 
-static inline int is_open(const struct bank *b)
+static const struct column *latest(const struct judge *j, enum direction d)
 {
-    return b->act.number > b->shut.number;
+    return &j->bank[j->latest[d]].column[d];
 }
 
-static inline int is_closing(const struct judge *j, const struct bank *b)
+static const struct mark *latest_act(const struct judge *j)
 {
-    return !is_open(b) && b->shut.at > j->edge;
+    return &j->acts[(j->oldest + 3) % 4];
 }
 
-static int not_idle(struct judge *j)
+/* ---- rule 2 */
+
+static int is_open(const struct bank *b)
+{
+    return b->start == NEVER;
+}
+
+static int is_closing(const struct judge *j, const struct bank *b)
+{
+    return !is_open(b) && b->start > j->edge;
+}
+
+static int not_idle(struct judge *j, const struct bank *b)
+{
+    return b->start > j->edge && without_clocks(j, 2, b->act.number);
+}
+
+static int not_all_idle(struct judge *j)
 {
     int i;
     for (i = 0; i < BANKS; i++)
-        if (is_open(&j->bank[i]) || is_closing(j, &j->bank[i]))
-            return without_clocks(j, 2, j->bank[i].act.number);
-    return 0;
-}
-
-static int closing_covered(struct judge *j, unsigned ba, unsigned a)
-{
-    unsigned i;
-    for (i = 0; i < BANKS; i++)
-        if (((a & A10) != 0 || i == ba) && is_closing(j, &j->bank[i]))
-            return without_clocks(j, 2, j->bank[i].act.number);
+        if (not_idle(j, &j->bank[i]))
+            return 1;
     return 0;
 }
 
@@ -59,16 +75,59 @@ static int not_open(struct judge *j, const struct bank *b)
     return !is_open(b) && without_clocks(j, 2, is_closing(j, b) ? b->act.number : 0);
 }
 
+static int closing(struct judge *j, const struct bank *b)
+{
+    return is_closing(j, b) && without_clocks(j, 2, b->act.number);
+}
+
+/* ---- spacings that several commands have in common */
+
+static int soon_after_start(struct judge *j, const struct bank *b)
+{
+    return soon_after(j, 5, b->start, b->shut_by, j->t.rp);
+}
+
+static int soon_after_any_start(struct judge *j)
+{
+    const struct bank *last = j->bank;
+    int i;
+    for (i = 1; i < BANKS; i++) {
+        const struct bank *b = &j->bank[i];
+        if (b->start > last->start || (b->start == last->start && b->shut_by > last->shut_by))
+            last = b;
+    }
+    return soon_after_start(j, last);
+}
+
+static int soon_after_read(struct judge *j)
+{
+    const struct column *read = latest(j, READ);
+    return soon_after(j, 19, read->at, read->number, read->needs.set);
+}
+
+static int soon_after_same(struct judge *j, enum direction d)
+{
+    const struct column *same = latest(j, d);
+    return soon_after(j, 12, same->at, same->number, SAME_TO_SAME);
+}
+
+static int soon_after_other(struct judge *j, int rule, enum direction d)
+{
+    const struct column *other = latest(j, d);
+    return soon_after(j, rule, other->at, other->number, other->needs.other);
+}
+
+/* ---- commands */
+
 static int activate(struct judge *j, const struct bank *b)
 {
-    const struct counts *t = &j->t;
-    if (is_open(b) || is_closing(j, b))
-        return without_clocks(j, 2, b->act.number);
+    if (not_idle(j, b))
+        return 1;
     if ((j->written & ALL_WRITTEN) != ALL_WRITTEN)
         return without_clocks(j, 3, 0);
-    return soon_for(j, 5, &b->shut, t->rp) || soon_for(j, 6, &b->act, t->rc) ||
-           soon_for(j, 7, &j->acts[(j->oldest + 3) % 4], t->rrd) || soon_for(j, 8, &j->acts[j->oldest], t->faw) ||
-           soon(j, 15, &j->ref) || soon(j, 17, &j->mrs) || soon(j, 18, &j->zq) || soon(j, 21, &j->woke);
+    return soon_after_start(j, b) || soon_for(j, 6, &b->act, j->t.rc) || soon_for(j, 7, latest_act(j), j->t.rrd) ||
+           soon_for(j, 8, &j->acts[j->oldest], j->t.faw) || soon(j, 15, &j->ref) || soon(j, 17, &j->mrs) ||
+           soon(j, 18, &j->zq) || soon(j, 21, &j->woke);
 }
 
 static int read_column(struct judge *j, const struct bank *b)
@@ -77,58 +136,68 @@ static int read_column(struct judge *j, const struct bank *b)
         return 1;
     if ((j->written & DLL_RESET) == 0)
         return without_clocks(j, 3, 0);
-    return soon(j, 4, &b->act) || soon_for(j, 12, &j->read, 4) || soon_for(j, 14, &j->wrote, j->write_to_read) ||
-           soon(j, 15, &j->ref) || soon(j, 17, &j->mrs) || soon(j, 18, &j->zq) || soon(j, 20, &j->reset) ||
-           soon(j, 21, &j->woke);
+    return soon(j, 4, &b->act) || soon_after_same(j, READ) || soon_after_other(j, 14, WRITE) || soon(j, 15, &j->ref) ||
+           soon(j, 17, &j->mrs) || soon(j, 18, &j->zq) || soon(j, 20, &j->reset) || soon(j, 21, &j->woke);
 }
 
 static int write_column(struct judge *j, const struct bank *b)
 {
-    return not_open(j, b) || soon(j, 4, &b->act) || soon_for(j, 12, &j->wrote, 4) ||
-           soon_for(j, 13, &j->read, j->read_to_write) || soon(j, 15, &j->ref) || soon(j, 17, &j->mrs) ||
-           soon(j, 18, &j->zq) || soon(j, 21, &j->woke);
+    return not_open(j, b) || soon(j, 4, &b->act) || soon_after_same(j, WRITE) || soon_after_other(j, 13, READ) ||
+           soon(j, 15, &j->ref) || soon(j, 17, &j->mrs) || soon(j, 18, &j->zq) || soon(j, 21, &j->woke);
 }
 
-static int precharge(struct judge *j, unsigned ba, unsigned a)
+static int precharge_after(struct judge *j, const struct mark *act, const struct column *read, const struct column *wrote)
 {
-    const struct bank *b = &j->bank[ba];
-    int all = (a & A10) != 0;
-    return closing_covered(j, ba, a) || soon_for(j, 9, all ? &j->acts[(j->oldest + 3) % 4] : &b->act, j->t.ras) ||
-           soon(j, 10, all ? &j->read : &b->read) || soon(j, 11, all ? &j->wrote : &b->wrote) ||
-           soon(j, 15, &j->ref) || soon(j, 17, &j->mrs) || soon(j, 18, &j->zq) || soon(j, 21, &j->woke);
+    return soon_for(j, 9, act, j->t.ras) || soon_after(j, 10, read->at, read->number, read->needs.pre) ||
+           soon_after(j, 11, wrote->at, wrote->number, wrote->needs.pre) || soon(j, 15, &j->ref) ||
+           soon(j, 17, &j->mrs) || soon(j, 18, &j->zq) || soon(j, 21, &j->woke);
+}
+
+static int precharge(struct judge *j, const struct bank *b)
+{
+    return closing(j, b) || precharge_after(j, &b->act, &b->column[READ], &b->column[WRITE]);
+}
+
+static int precharge_all(struct judge *j)
+{
+    int i;
+    for (i = 0; i < BANKS; i++)
+        if (closing(j, &j->bank[i]))
+            return 1;
+    return precharge_after(j, latest_act(j), latest(j, READ), latest(j, WRITE));
 }
 
 static int refresh_or_calibrate(struct judge *j)
 {
-    return not_idle(j) || soon_for(j, 5, &j->shut, j->t.rp) || soon(j, 15, &j->ref) || soon(j, 17, &j->mrs) ||
+    return not_all_idle(j) || soon_after_any_start(j) || soon(j, 15, &j->ref) || soon(j, 17, &j->mrs) ||
            soon(j, 18, &j->zq) || soon(j, 21, &j->woke);
 }
 
-static int set_mode(struct judge *j, unsigned ba, unsigned a)
+static int set_mode(struct judge *j, unsigned number, unsigned code)
 {
-    if (not_idle(j))
+    if (not_all_idle(j))
         return 1;
-    if (!code_allowed(&j->header, &j->t, ba, a))
+    if (!code_allowed(&j->header, &j->t, number, code))
         return without_clocks(j, 3, 0);
-    return soon_for(j, 5, &j->shut, j->t.rp) || soon(j, 15, &j->ref) || soon_for(j, 16, &j->mrs, 4) ||
-           soon(j, 18, &j->zq) || soon_for(j, 19, &j->read, j->read_to_set) || soon(j, 21, &j->woke);
+    return soon_after_any_start(j) || soon(j, 15, &j->ref) || soon_for(j, 16, &j->mrs, MRS_TO_MRS) ||
+           soon(j, 18, &j->zq) || soon_after_read(j) || soon(j, 21, &j->woke);
 }
 
 static int enter_self_refresh(struct judge *j)
 {
-    if (not_idle(j) || soon_for(j, 5, &j->shut, j->t.rp) || soon(j, 15, &j->ref) || soon(j, 17, &j->mrs) ||
-        soon(j, 18, &j->zq) || soon_for(j, 19, &j->read, j->read_to_set) || soon(j, 21, &j->woke))
-        return 1;
-    return j->refresh_owed && without_clocks(j, 23, j->woke.number);
+    return not_all_idle(j) || soon_after_any_start(j) || soon(j, 15, &j->ref) || soon(j, 17, &j->mrs) ||
+           soon(j, 18, &j->zq) || soon_after_read(j) || soon(j, 21, &j->woke) ||
+           (j->refresh_owed && without_clocks(j, 23, j->woke.number));
 }
 
 int breaks_a_rule(struct judge *j, enum command command, unsigned ba, unsigned a)
 {
+    const struct bank *b = &j->bank[ba];
     switch (command) {
-    case ACT: return activate(j, &j->bank[ba]);
-    case RD: return read_column(j, &j->bank[ba]);
-    case WR: return write_column(j, &j->bank[ba]);
-    case PRE: return precharge(j, ba, a);
+    case ACT: return activate(j, b);
+    case RD: return read_column(j, b);
+    case WR: return write_column(j, b);
+    case PRE: return (a & A10) != 0 ? precharge_all(j) : precharge(j, b);
     case REF: case ZQ: return refresh_or_calibrate(j);
     case MRS: return set_mode(j, ba, a);
     case SRE: return enter_self_refresh(j);

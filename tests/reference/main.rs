@@ -7,7 +7,8 @@
 //! reference burst                       lines "length start type direction [lent]" to answers
 //! reference generate SEED COUNT [small] recordings, a line each: hex, end, lent
 //! reference count SEED COUNT [small]    how often each answer comes
-//! reference rounds SEED RECORDS         a long clean recording, as bytes
+//! reference long KIND SEED RECORDS      a long recording, as bytes: rounds, mix, modes, idle, broken
+//! reference rounds SEED RECORDS         that of the rounds
 //! reference functions SEED COUNT WORDS  compares the C harness that WORDS start; `few` for COUNT's small ones only
 //! reference few SEED COUNT WORDS
 //! reference programs SEED COUNT WORDS   compares the program, a process for each recording
@@ -26,17 +27,18 @@ mod count;
 mod cuts;
 mod damage;
 mod deadlines;
+mod driver;
 mod features;
 mod generate;
 mod harness;
 mod header;
+mod long;
 mod programs;
 mod proposals;
 mod random;
 mod recording;
 mod registers;
 mod requests;
-mod rounds;
 mod rules;
 mod settings;
 mod shrink;
@@ -73,10 +75,8 @@ fn done(words: &[&str]) -> Result<bool, String> {
         ["generate", seed, count, "small"] => generate(seed, count, true),
         ["count", seed, count] => count::count(seed, count, false),
         ["count", seed, count, "small"] => count::count(seed, count, true),
-        ["rounds", seed, records] => {
-            let bytes = rounds::rounds(number(seed)?, number(records)?)?;
-            stdout().write_all(&bytes).map(|_| true).map_err(|e| e.to_string())
-        }
+        ["long", kind, seed, records] => long(kind, seed, records),
+        ["rounds", seed, records] => long("rounds", seed, records),
         ["functions", seed, count, ref words @ ..] => compare::functions(number(seed)?, number(count)?, false, words),
         ["few", seed, count, ref words @ ..] => compare::functions(number(seed)?, number(count)?, true, words),
         ["programs", seed, count, ref words @ ..] => programs::programs(number(seed)?, number(count)?, words),
@@ -141,6 +141,11 @@ fn burst_line(words: &[&str]) -> Result<String, String> {
         _ => return Err("not a line: length start type direction [lent]".into()),
     };
     Ok(bytes_or_refusal(bursts::burst_order(length, start, kind, direction, lent)))
+}
+
+fn long(kind: &str, seed: &str, records: &str) -> Result<bool, String> {
+    let bytes = long::long(kind, number(seed)?, number(records)?)?;
+    stdout().write_all(&bytes).map(|_| true).map_err(|e| e.to_string())
 }
 
 fn generate(seed: &str, count: &str, small: bool) -> Result<bool, String> {
