@@ -12,7 +12,7 @@ use Rattle.judge.specs.declared.Opened.{Opened as Opening}
 use Rattle.judge.specs.declared.Taken.{Taken}
 use Rattle.judge.specs.Calls.{openOf, sectionOf}
 use Rattle.program.specs.declared.Run.{Run}
-use Rattle.program.specs.Program.{openedRun, nextRun}
+use Rattle.program.specs.Program.{openedRun, nextRun, ranOver}
 
 pub opened-run : (bs : List ℕ) (o : Opening) → o ≡ openOf bs → record { refused = o .refused; state = o .state; more = eqb (o .refused) 0 } ≡ openedRun bs
 opened-run bs o e = λ i. record { refused = e i .refused; state = e i .state; more = eqb (e i .refused) 0 }
@@ -26,3 +26,6 @@ begun-unique header = one-answer (openedRun header)
 
 pub next-unique : (s : State) (bytes : List ℕ) → Unique (λ (r : Run). r ≡ nextRun s bytes)
 next-unique s bytes = one-answer (nextRun s bytes)
+
+pub over-unique : (start : Run) (block : List ℕ) → Unique (λ (r : Run). r ≡ ranOver 10 start block)
+over-unique start block = one-answer (ranOver 10 start block)

@@ -24,7 +24,7 @@ nextRun s bs =
       more = eqb (sectionOf s bs .refused) 0 && eqb (length bs) 6000;
     }
 
--- section after section, at most so many
+-- section after section, at most so many: of the whole input, or of a block of it
 unfoldable pub ranOver : (sections : ℕ) → Run → List ℕ → Run
 ranOver zero r bs = r
 ranOver (suc n) r bs = cond (r .more) (ranOver n (nextRun (r .state) (take 6000 bs)) (drop 6000 bs)) r

@@ -1,14 +1,19 @@
-// What the program makes of the bytes that it reads (01, P8): the header's, a section's, and the line that it prints.
+// What the program makes of the bytes that it reads (01, P8): the header's, a section's, those of a block of sections, and the line
+// that it prints.
 use judge::State;
 use lines::ROOM;
+ghost use Prim.Native.Nat.{min};
 ghost use mathlib.Core.Path.{_≡_};
 ghost use Rattle.io.specs.Counts.{Counts};
 ghost use Rattle.lines.specs.Line.{Printed};
 ghost use Rattle.program.specs.Answer.{answerLine};
-ghost use Rattle.program.specs.Program.{openedRun, nextRun};
+ghost use Rattle.program.specs.Program.{openedRun, nextRun, ranOver};
 
 // A section's bytes.
 pub const SECTION: usize = 6000;
+
+// A block's: ten sections. So much a pipe can hold, so that one call may read it all.
+pub const BLOCK: usize = 60000;
 
 // What was refused (0: nothing), the state, and whether there may be more to read.
 pub struct Run {
@@ -41,6 +46,27 @@ pub fn next(state: State, bytes: &[u8]) -> Run
         state: after,
         more: (t.refused == 0) & (bytes.len() == SECTION),
     }
+}
+
+// The run after a block's bytes: section after section, ten at most, while there may be more. The last section of a block that is
+// not full is not full either, if only because it is empty: behind it there is no more.
+pub fn over(start: Run, block: &[u8]) -> Run
+    ensures { λ r. ⌜ r ≡ ranOver 10 start (now (block .entry)) ⌝ }
+{
+    let mut run = start;
+    let mut at: usize = 0;
+    while run.more & (at < BLOCK) {
+        let to = least(at + SECTION, block.len());
+        run = next(run.state, &block[at..to]);
+        at += SECTION;
+    }
+    run
+}
+
+fn least(a: usize, b: usize) -> usize
+    ensures { λ r. ⌜ r ≡ min a b ⌝ }
+{
+    if a < b { a } else { b }
 }
 
 // Puts the line of what was judged at the start of text, and answers how many bytes it takes.
