@@ -1,14 +1,15 @@
 -- Opening counts no record; a section that is taken adds its records to the count, and keeps the limit.
 -- Assumes nothing.
-use Prim.Native.Nat.{ℕ, _+_, _*_, _/_, _%_, _≤_, _<_}
+use Prim.Native.Nat.{ℕ, zero, suc, _+_, _*_, _/_, _%_, _≤_, _<_}
 use native.Mathlib.Nat.{add-zero}
 use native.Mathlib.Omega.{arith}
-use mathlib.Core.Bool.{Bool, true, false, cond, and-eq-true-iff}
+use mathlib.Core.Bool.{Bool, true, false, cond}
 use mathlib.Core.List.{List, [], _∷_}
-use mathlib.Core.Path.{_≡_, refl, sym, ap, _∙_, subst}
-use borrow.Author.Tests.{ltb-false, eqb-true}
+use mathlib.Core.Path.{_≡_, refl, sym, ap, _∙_}
+use borrow.Author.Tests.{ltb-false}
 use lib.Dec.{eqb, ltb}
-use lib.ListN.{length}
+use lib.ListN.{length, drop, length-take, length-drop}
+use lib.ListN.{take as firsts}
 use Rattle.answers.specs.declared.Verdict.{Verdict}
 use Rattle.chip.specs.declared.Chip.{Chip}
 use Rattle.chip.specs.Chip.{chipOf}
@@ -27,7 +28,8 @@ use Rattle.judge.specs.Ranges.{inRange}
 use Rattle.running.specs.Said.{isClean}
 use Rattle.running.specs.Step.{turnIn, movedOf, stoppedOf, stepOf, foldOf}
 use Rattle.program.specs.declared.Run.{Run}
-use Rattle.program.specs.Program.{openedRun, nextRun}
+use Rattle.program.specs.Program.{openedRun, ranOver}
+use Rattle.program.proofs.Blocks.{after, goes, had-more, was-full}
 use Rattle.verdict.specs.Reading.{Opened, Took}
 
 -- a full section was taken: 1,000 records more, within the limit
@@ -83,11 +85,27 @@ module _ (s : State) (bs : List ℕ) (full : length bs ≡ 6000) where
   unfolding sectionOf
   taken-full z = picked (inRange s) (eqb (length bs % 6) 0) (ltb limit (s .rank .count + length bs / 6)) (hasZero (records bs)) refl z
 
--- a section of some bytes was taken, and it was full
-pub took-full : (s : State) (r : Run) → Took s r → r .more ≡ true → Full s (r .state)
-took-full s r w h =
-    let both = and-eq-true-iff (eqb (sectionOf s (w .0) .refused) 0) (eqb (length (w .0)) 6000) .0 (sym (ap (λ (x : Run). x .more) (w .2)) ∙ h) in
-    subst (λ (x : Run). Full s (x .state)) (sym (w .2)) (taken-full s (w .0) (eqb-true _ _ (both .1)) (eqb-true _ _ (both .0)))
+-- sections in turn, and there may be more: all were full, and taken
+pub record Filled (n : ℕ) (r : Run) (bs : List ℕ) : Type 0 where
+  pub bytes : n * 6000 ≤ length bs
+  pub records : ranOver n r bs .state .rank .count ≡ r .state .rank .count + n * 1000
+  pub within : r .state .rank .count ≤ limit → ranOver n r bs .state .rank .count ≤ limit
+
+pub filled : (n : ℕ) (r : Run) (bs : List ℕ) → ranOver n r bs .more ≡ true → Filled n r bs
+unfolding ranOver
+filled zero r bs h = record { bytes = omega arith; records = omega arith; within = λ w. w }
+filled (suc n) r bs h =
+    let is = goes n r bs (had-more (suc n) r bs h) in
+    let later : ranOver n (after r bs) (drop 6000 bs) .more ≡ true = sym (ap (λ (q : Run). q .more) is) ∙ h in
+    let was = was-full (r .state) (firsts 6000 bs) (had-more n (after r bs) (drop 6000 bs) later) in
+    let one = taken-full (r .state) (firsts 6000 bs) (was .1) (was .0) in
+    let rest = filled n (after r bs) (drop 6000 bs) later in
+    let same : ranOver (suc n) r bs .state .rank .count ≡ ranOver n (after r bs) (drop 6000 bs) .state .rank .count = ap (λ (q : Run). q .state .rank .count) is in
+    record {
+      bytes = omega (arith, rest .bytes, was .1, length-take 6000 bs, length-drop 6000 bs);
+      records = omega (arith, same, rest .records, one .more);
+      within = λ w. omega (arith, same, rest .within (one .within));
+    }
 
 -- opening counts no record
 by-header : (p : Parsed) → openedBy p .state .rank .count ≡ 0
@@ -105,5 +123,5 @@ opened-none r w = ap (λ (x : Run). x .state .rank .count) (w .2) ∙ none-yet (
 pub opened-by : {r : Run} (bs : List ℕ) → r ≡ openedRun bs → (n : ℕ) → n ≡ length bs → n ≤ 6 → Opened r
 opened-by bs e n size most = (bs, omega arith, e)
 
-pub took-by : (s : State) {r : Run} (bs : List ℕ) → r ≡ nextRun s bs → (n : ℕ) → n ≡ length bs → n ≤ 6000 → Took s r
-took-by s bs e n size most = (bs, omega arith, e)
+pub took-by : (start : Run) {r : Run} (bs : List ℕ) → r ≡ ranOver 10 start bs → (n : ℕ) → n ≡ length bs → n ≤ 60000 → Took start r
+took-by start bs e n size most = (bs, omega arith, e)

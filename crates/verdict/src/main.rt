@@ -4,17 +4,24 @@ use judge::State;
 use libc::STDIN_FILENO;
 use libc::STDOUT_FILENO;
 use lines::ROOM;
+use program::BLOCK;
 use program::Run;
-use program::SECTION;
 ghost use mathlib.Core.Path.{_≡_};
-ghost use mathlib.Core.Bool.{false};
-ghost use Rattle.verdict.specs.Reading.{Opened, Took, Ran};
+ghost use lib.ListN.{length};
+ghost use Rattle.verdict.specs.Reading.{Opened, Took, Ran, Judged, Told};
 
-// A section's records.
-const RECORDS: u64 = 1000;
+// A block's records.
+const RECORDS: u64 = 10000;
 
 fn main() {
-    answer(judged(opened()));
+    answer(judged());
+}
+
+// The run over all of the input.
+fn judged() -> Run
+    ensures { λ r. ⌜ Judged r ⌝ }
+{
+    ran(opened())
 }
 
 // Opening, of the bytes that are there.
@@ -26,34 +33,48 @@ fn opened() -> Run
     program::begun(&header[..n])
 }
 
-// Section after section, up to a refusal or the end of the input. Past the limit there was a refusal, so the loop ends.
-fn judged(start: Run) -> Run
+// Block after block, up to a refusal or the end of the input. Past the limit there was a refusal, so the loop ends.
+fn ran(start: Run) -> Run
     requires { ⌜ start .state .rank .count ≡ 0 ⌝ }
-    ensures { λ r. ⌜ (r .more ≡ false) × Ran start r ⌝ }
+    ensures { λ r. ⌜ Ran start r ⌝ }
 {
     let mut run = start;
     let mut read: u64 = 0;
-    while read <= State::LIMIT {
-        if !run.more {
-            return run;
-        }
-        run = taken(run.state);
+    let mut space = room();
+    while run.more & (read <= State::LIMIT) {
+        run = taken(run, &mut space);
         read += RECORDS;
     }
     run
 }
 
-// A section, of the bytes that are there.
-fn taken(state: State) -> Run
-    ensures { λ r. ⌜ Took state r ⌝ }
+// A block's room, of which only the length is known: lending it asks no more.
+fn room() -> [u8; BLOCK]
+    ensures { λ r. ⌜ 60000 ≡ length r ⌝ }
 {
-    let mut space = [0u8; SECTION];
-    let n = io::read_full(STDIN_FILENO, &mut space);
-    program::next(state, &space[..n])
+    [0; BLOCK]
 }
 
-fn answer(run: Run) {
+// A block, of the bytes that are there.
+fn taken(run: Run, space: &mut [u8]) -> Run
+    requires { ⌜ length (now space) ≡ 60000 ⌝ }
+    ensures { λ r. ⌜ Took run r ⌝ }
+{
+    let n = io::read_full(STDIN_FILENO, space);
+    program::over(run, &space[..n])
+}
+
+// The line of what was judged.
+fn answer(run: Run)
+    requires { ⌜ Judged run ⌝ }
+{
     let mut text = [0u8; ROOM];
     let n = program::line(run, &mut text);
-    io::write_all(STDOUT_FILENO, &text[..n]);
+    print(&text[..n]);
+}
+
+fn print(line: &[u8])
+    requires { ⌜ Told (now line) ⌝ }
+{
+    io::write_all(STDOUT_FILENO, line);
 }

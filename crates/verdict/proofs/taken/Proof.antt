@@ -1,35 +1,36 @@
--- `verdict::taken` meets its contract: some bytes are a section, 6,000 at most.
+-- `verdict::taken` meets its contract: some bytes are a block, 60,000 at most.
 -- Assumes nothing.
 use Rattle.verdict.proofs.Counting.{took-by}
+use native.Mathlib.Omega.{arith}
 use borrow.Author.Needs.{needs}
 use Rattle.verdict.proofs.taken.Statement.{statement}
 use Rattle.verdict.proofs.taken.Tie as tie
 
-slice-aggregate-read-full : tie.Need-slice-aggregate-read-full
-slice-aggregate-read-full c = search needs
-
 read-full-requires : tie.Need-read-full-requires
 read-full-requires c κs = search needs
 
-array-share-prefix-space : tie.Need-array-share-prefix-space
-array-share-prefix-space c = search needs
+slice-reshare-prefix-over : tie.Need-slice-reshare-prefix-over
+slice-reshare-prefix-over c = search needs
 
-slice-aggregate-next : tie.Need-slice-aggregate-next
-slice-aggregate-next c = search needs
+slice-aggregate-over : tie.Need-slice-aggregate-over
+slice-aggregate-over c = search needs
 
-next-requires : tie.Need-next-requires
-next-requires c κs = search needs
+over-requires : tie.Need-over-requires
+over-requires c κs = search needs
+
+same-length : tie.Need-same-length
+same-length c = search needs
 
 returns : tie.Need-returns
-returns c = let counted = c .before .before .before .read-full .ensures in took-by _ _ (c .next .ensures) _ (counted .1) (search needs)
+returns c = let counted = c .before .before .before .before .read-full .ensures in took-by _ _ (c .over .ensures) _ (counted .1) (omega (arith, counted .0, c .before .before .before .before .before .before .before .pre))
 
 pub taken-spec : {M : Type 1} → statement M
 taken-spec =
     tie.close
     (tie.spec
-    slice-aggregate-read-full
     read-full-requires
-    array-share-prefix-space
-    slice-aggregate-next
-    next-requires
+    slice-reshare-prefix-over
+    slice-aggregate-over
+    over-requires
+    same-length
     returns)
