@@ -3,8 +3,8 @@
 use Prim.Native.Nat.{ℕ, zero, suc, _+_, _*_, _/_, _≤_, _<_}
 use native.Mathlib.Omega.{arith}
 use native.Mathlib.Decide.{ℕ-discrete}
-use mathlib.Core.Path.{_≡_, refl, sym, ap, _∙_}
-use mathlib.Core.Bool.{true, false, cond, _&&_}
+use mathlib.Core.Path.{_≡_, sym, ap, _∙_}
+use mathlib.Core.Bool.{true, cond, _&&_}
 use mathlib.Core.List.{List, [], _++_, append-assoc}
 use lib.Dec.{eqb}
 use lib.ListN.{length, take, drop, length-append, length-take, length-drop, take-append-drop}
@@ -32,6 +32,7 @@ use Rattle.lines.specs.Line.{verdictLine, refusalLine}
 use Rattle.program.specs.declared.Run.{Run}
 use Rattle.program.specs.Answer.{closingLine, answerLine}
 use Rattle.program.specs.Program.{openedRun, nextRun, ranOver, programLine}
+use Rattle.program.proofs.Blocks.{stopped}
 use Rattle.prints.specs.Wanted.{firstRefusal, wantedLine}
 
 -- a run that goes on, and the line of a run
@@ -40,12 +41,6 @@ going s = record { refused = 0; state = s; more = true }
 
 abbrev lineOf : Run → List ℕ
 lineOf r = answerLine (r .refused) (r .state)
-
--- a run that has no more goes no further
-stopped : (n : ℕ) (r : Run) (bs : List ℕ) → r .more ≡ false → ranOver n r bs ≡ r
-unfolding ranOver
-stopped zero r bs e = refl
-stopped (suc n) r bs e = rw e
 
 refused-line : (n : ℕ) (s : State) → (n ≡ 0 → ⊥) → answerLine n s ≡ refusalLine n
 unfolding answerLine
