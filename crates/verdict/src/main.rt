@@ -1,5 +1,5 @@
 // Judges the recording that standard input holds and prints one line (01, P8): the first refusal, or the verdict at the last
-// record's edge. The header is read first, then sections of 6,000 bytes, the last perhaps shorter.
+// record's edge. The header is read first, then sections of 6,000 bytes, ten at a time, the last perhaps shorter.
 use judge::State;
 use libc::STDIN_FILENO;
 use libc::STDOUT_FILENO;
