@@ -8,7 +8,9 @@ use Rattle.laws.proofs.Unique.{Unique, one-answer}
 use Rattle.answers.specs.declared.Bank.{Bank}
 use Rattle.answers.specs.declared.Break.{Break}
 use Rattle.records.specs.declared.Command.{Command}
+use Rattle.records.specs.declared.Command.the-variants.{Srx}
 use Rattle.records.specs.declared.Record.{Record}
+use Rattle.records.specs.Command.{isA}
 use Rattle.chip.specs.declared.Chip.{Chip}
 use Rattle.running.specs.declared.Kept.{Kept}
 use Rattle.running.specs.declared.Shared.{Shared}
@@ -17,7 +19,7 @@ use Rattle.running.specs.declared.Mark.{Mark}
 use Rattle.running.specs.Marks.{needing}
 use Rattle.running.specs.Fine.{fineAct, fineRd, fineWr, finePre, fineRest}
 use Rattle.answers.specs.Answer.{orElse, lowest}
-use Rattle.running.specs.Breaks.{statusOf, wants, barredBy, barredAt, speaksOfAll, rule3, spacings, joined}
+use Rattle.running.specs.Breaks.{statusOf, wants, barredBy, barredAt, speaksOfAll, rule3, rule23, whenIs, spacings, joined}
 
 pub since-unique : (e at : ℕ) → Unique (λ (r : ℕ). r ≡ e - at)
 since-unique e at = one-answer (e - at)
@@ -39,6 +41,9 @@ rule3-unique C c r w = one-answer (rule3 C c r w)
 
 pub spacings-unique : (C : Chip) (c : Command) (r : Record) (e : ℕ) (k : Kept) (s : Shared) → Unique (λ (x : Break). x ≡ spacings C c r e k s)
 spacings-unique C c r e k s = one-answer (spacings C c r e k s)
+
+pub last-rules-unique : (c : Command) (e : ℕ) (s : Shared) → Unique (λ (x : Break). x ≡ whenIs (isA Srx c) 22 e (s .rests .slept) (rule23 c s))
+last-rules-unique c e s = one-answer (whenIs (isA Srx c) 22 e (s .rests .slept) (rule23 c s))
 
 pub or-else-unique : (a b : Break) → Unique (λ (x : Break). x ≡ orElse a b)
 or-else-unique a b = one-answer (orElse a b)

@@ -19,4 +19,5 @@ pub use fine::fine_rest;
 pub use fine::fine_wr;
 pub use spaced::needing;
 pub use spaced::since;
+pub use spacing::last_rules;
 pub use spacing::spacings;

@@ -11,7 +11,8 @@ use running::Read;
 use running::Shared;
 use running::Wrote;
 ghost use mathlib.Core.Path.{_≡_};
-ghost use Rattle.records.specs.declared.Command.the-variants.{Act, Pre, Rd, Wr, Mrs, Ref, Sre};
+ghost use Rattle.records.specs.Command.{isA};
+ghost use Rattle.records.specs.declared.Command.the-variants.{Act, Pre, Rd, Wr, Mrs, Ref, Sre, Srx};
 ghost use Rattle.answers.specs.declared.Break.the-variants.{Fine};
 ghost use Rattle.running.specs.Marks as marks;
 ghost use Rattle.running.specs.Breaks as breaks;
@@ -124,6 +125,20 @@ fn of_sre(chip: Chip, r: Record, e: u64, k: Kept, s: Shared) -> Break
     let b17 = spaced(17, e, needing(chip.tmod, s.mrs), b18);
     let b15 = spaced(15, e, s.rests.refreshed, b17);
     spaced(5, e, s.shut, b15)
+}
+
+// Rules 22 and 23, of which no waiting time tells.
+pub fn last_rules(c: Command, e: u64, s: Shared) -> Break
+    ensures { λ x. ⌜ x ≡ breaks.whenIs (isA Srx c) 22 e (s .rests .slept) (breaks.rule23 c s) ⌝ }
+{
+    let k = records::rank_of(c);
+    if k == 10 {
+        return of_srx(e, s);
+    }
+    if k == 9 {
+        return rule23(s);
+    }
+    Break::Fine
 }
 
 fn of_srx(e: u64, s: Shared) -> Break

@@ -1,10 +1,10 @@
 -- A list with an element for each of eight banks.
 -- Assumes nothing.
-use Prim.Native.Nat.{ℕ, zero, suc, _<_}
+use Prim.Native.Nat.{ℕ, zero, suc, _+_, _<_}
 use native.Mathlib.Omega.{arith}
-use mathlib.Core.Path.{_≡_, refl}
+use mathlib.Core.Path.{_≡_, refl, ap, _∙_}
 use mathlib.Core.Bool.{cond}
-use mathlib.Core.List.{List, [], _∷_}
+use mathlib.Core.List.{List, [], _∷_, _++_}
 use lib.ListN.{getD, set}
 use lib.Dec.{eqb}
 use Rattle.laws.specs.Eight.{table}
@@ -48,3 +48,41 @@ module _ {A : Type 0} where
   at-set P d (x ∷ xs) zero v (suc b) p q = q
   at-set P d (x ∷ xs) (suc i) v zero p q = q
   at-set P d (x ∷ xs) (suc i) v (suc b) p q = at-set P d xs i v b p q
+
+  -- ── Twice eight ───────────────────────────────────────────────────────────────────────────
+
+  pub getD-first : (f g : ℕ → A) (b : ℕ) (d : A) → b < 8 → getD (table f ++ table g) b d ≡ f b
+  unfolding table
+  getD-first f g zero d h = refl
+  getD-first f g (suc zero) d h = refl
+  getD-first f g (suc (suc zero)) d h = refl
+  getD-first f g (suc (suc (suc zero))) d h = refl
+  getD-first f g (suc (suc (suc (suc zero)))) d h = refl
+  getD-first f g (suc (suc (suc (suc (suc zero))))) d h = refl
+  getD-first f g (suc (suc (suc (suc (suc (suc zero)))))) d h = refl
+  getD-first f g (suc (suc (suc (suc (suc (suc (suc zero))))))) d h = refl
+  getD-first f g (suc (suc (suc (suc (suc (suc (suc (suc n)))))))) d h = absurd (omega arith)
+
+  pub getD-second : (f g : ℕ → A) (b : ℕ) (d : A) → b < 8 → getD (table f ++ table g) (b + 8) d ≡ g b
+  unfolding table
+  getD-second f g b d h =
+      let e : b + 8 ≡ suc (suc (suc (suc (suc (suc (suc (suc b))))))) = omega arith in
+      ap (λ n. getD (table f ++ table g) n d) e ∙ getD-table g b d h
+
+  pub set-first : (f g : ℕ → A) (b : ℕ) (v : A) → b < 8 → set (table f ++ table g) b v ≡ set (table f) b v ++ table g
+  unfolding table
+  set-first f g zero v h = refl
+  set-first f g (suc zero) v h = refl
+  set-first f g (suc (suc zero)) v h = refl
+  set-first f g (suc (suc (suc zero))) v h = refl
+  set-first f g (suc (suc (suc (suc zero)))) v h = refl
+  set-first f g (suc (suc (suc (suc (suc zero))))) v h = refl
+  set-first f g (suc (suc (suc (suc (suc (suc zero)))))) v h = refl
+  set-first f g (suc (suc (suc (suc (suc (suc (suc zero))))))) v h = refl
+  set-first f g (suc (suc (suc (suc (suc (suc (suc (suc n)))))))) v h = absurd (omega arith)
+
+  pub set-second : (f g : ℕ → A) (b : ℕ) (v : A) → set (table f ++ table g) (b + 8) v ≡ table f ++ set (table g) b v
+  unfolding table
+  set-second f g b v =
+      let e : b + 8 ≡ suc (suc (suc (suc (suc (suc (suc (suc b))))))) = omega arith in
+      ap (λ n. set (table f ++ table g) n v) e

@@ -53,7 +53,7 @@ module _ (C : Chip) (S : Sound C) (r : Record) (p : Past) (h : Clean C p) where
   barred-at : (n : ℕ) → n < 8 → running.barredAt c (table (kept C p)) e n ≡ running.barredBy (running.wants c) (status C n p e)
   barred-at n l = ap (running.barredBy (running.wants c)) (ap (λ k. running.statusOf k e) (getD-table (kept C p) n empty l) ∙ status-of C n e p)
 
-  agrees2 : running.rule2 c r (table (kept C p)) e ≡ rule2 C r p
+  pub agrees2 : running.rule2 c r (table (kept C p)) e ≡ rule2 C r p
   unfolding running.rule2
   agrees2 = ⊎-elim
       (λ (y : speaks c (a10 r) ≡ true).
@@ -116,7 +116,7 @@ module _ (C : Chip) (S : Sound C) (r : Record) (p : Past) (h : Clean C p) where
       no true = refl
       no false = refl
 
-  marks23 : cond (is Sre (r ∷ p) && ltb (mark (λ _. C .trfc) (latest (is Ref) p) .num) (mark (λ _. C .txs) (latest (is Srx) p) .num))
+  pub marks23 : cond (is Sre (r ∷ p) && ltb (mark (λ _. C .trfc) (latest (is Ref) p) .num) (mark (λ _. C .txs) (latest (is Srx) p) .num))
       (Broken 23 (mark (λ _. C .txs) (latest (is Srx) p) .num) 0 0) Fine ≡ rule23 C r p
   marks23 = rw (mark-num (λ _. C .trfc) (latest (is Ref) p), mark-num (λ _. C .txs) (latest (is Srx) p)) agrees23
 
@@ -125,7 +125,7 @@ module _ (C : Chip) (S : Sound C) (r : Record) (p : Past) (h : Clean C p) where
   latest-act n = needing-mark n (λ _. C .tras) (back (is Act) 0 p) ∙ ap (mark (λ _. n)) (back-latest (is Act) p)
 
   -- one row more
-  row-also :
+  pub row-also :
       (R : Spacing) (m : Mark) {rest others : Break} → Dominated edge (R .from (r ∷ p)) (R .need) p → m ≡ mark (R .need) (latest (R .from (r ∷ p)) p)
       → rest ≡ others → running.whenIs (R .to (r ∷ p)) (R .name) e m rest ≡ orElse (row R r p) others
   row-also R m d x q = also (R .to (r ∷ p)) (R .name) e m (by R m d x) q
@@ -145,7 +145,7 @@ module _ (C : Chip) (S : Sound C) (r : Record) (p : Past) (h : Clean C p) where
   abbrev mrs : Mark
   mrs = mark (λ _. 4) (latest (is Mrs) p)
 
-  spacings-agree : running.spacings C c r e (kept C p b) (shared C p) ≡ breakAt (spacingChecks C) r p
+  pub spacings-agree : running.spacings C c r e (kept C p b) (shared C p) ≡ breakAt (spacingChecks C) r p
   unfolding running.spacings kept shared acts rests
   spacings-agree =
       row-also (spacing C r4) acted (dominated4 C S p h b) refl
@@ -176,7 +176,7 @@ module _ (C : Chip) (S : Sound C) (r : Record) (p : Past) (h : Clean C p) where
       (row-also (spacing C r22) (mark (λ _. C .tcke + 1) (latest (is Sre) p)) (constant-dominated _ (C .tcke + 1) p) refl
       (marks23 ∙ sym (or-fine (rule23 C r p))))))))))))))))))))))
 
-  agrees3 : running.rule3 C c r (written C p) ≡ rule3 C r p
+  pub agrees3 : running.rule3 C c r (written C p) ≡ rule3 C r p
   unfolding running.rule3 written
   agrees3 = refl
 

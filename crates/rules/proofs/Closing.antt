@@ -41,7 +41,7 @@ use Rattle.rules.proofs.Whole.{frozen, carriedBy, carried, carried-clea
 
 -- ── Closing ─────────────────────────────────────────────────────────────────────────────────
 
-rest-shown : (v : Outcome) (n t : ℕ) → restOf (shown v n t) t ≡ rest v t
+pub rest-shown : (v : Outcome) (n t : ℕ) → restOf (shown v n t) t ≡ rest v t
 rest-shown clean n t = refl
 rest-shown (stop u m Fine) n t = refl
 rest-shown (stop u m (Broken k x y f)) n t = refl
@@ -53,10 +53,10 @@ module _ (C : Chip) where
       table-ext (λ b. shownOf (statusOf (getD (table (kept C q)) b empty) u)) (λ b. shownOf (status C b q u))
       (λ b l. ap shownOf (ap (λ k. statusOf k u) (getD-table (kept C q) b empty l) ∙ status-of C b u q))
 
-  abbrev registersIn : Past → List Register
+  abbrev pub registersIn : Past → List Register
   registersIn q = registerOf (mr 0 q) ∷ registerOf (mr 1 q) ∷ registerOf (mr 2 q) ∷ registerOf (mr 3 q) ∷ []
 
-  registers-in : (q : Past) → registersOf (regs q) (written C q) ≡ registersIn q
+  pub registers-in : (q : Past) → registersOf (regs q) (written C q) ≡ registersIn q
   unfolding regs written
   registers-in q = refl
 

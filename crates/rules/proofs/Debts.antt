@@ -43,11 +43,11 @@ module _ {T : ℕ} (h : 0 < T) where
   unfolding owedAt awakeAt
   owed-at p t = ap (λ n. owedTo T p + n) (passed h (awakeTo p) (cond (asleep p) 0 (t - edge p)))
 
-  phase-step : (r : Record) (p : Past) → (awakeTo p % T + cond (asleep p) 0 (r .step)) % T ≡ awakeTo (r ∷ p) % T
+  pub phase-step : (r : Record) (p : Past) → (awakeTo p % T + cond (asleep p) 0 (r .step)) % T ≡ awakeTo (r ∷ p) % T
   unfolding awakeTo
   phase-step r p = mod-add-mod (awakeTo p) T (cond (asleep p) 0 (r .step))
 
-  owed-step : (r : Record) (p : Past) →
+  pub owed-step : (r : Record) (p : Past) →
       owedTo T p + (awakeTo p % T + cond (asleep p) 0 (r .step)) / T - cond (is Ref (r ∷ p)) 1 0 ≡ owedTo T (r ∷ p)
   unfolding owedTo
   owed-step r p = sym

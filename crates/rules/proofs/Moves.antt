@@ -47,7 +47,7 @@ regs-next r p = λ i. record { mr0 = go 0 i; mr1 = go 1 i; mr2 = go 2 i; mr3 = g
 -- ── Banks ───────────────────────────────────────────────────────────────────────────────────
 
 -- an event closes its own bank just if it closes some bank
-own-close : (x a y : Bool) → x && (a || true) || y && (a && true) ≡ (x || y && a)
+pub own-close : (x a y : Bool) → x && (a || true) || y && (a && true) ≡ (x || y && a)
 own-close true true y = refl
 own-close true false y = refl
 own-close false true true = refl
@@ -55,11 +55,11 @@ own-close false true false = refl
 own-close false false true = refl
 own-close false false false = refl
 
-no-and : (x : Bool) → x && false ≡ false
+pub no-and : (x : Bool) → x && false ≡ false
 no-and true = refl
 no-and false = refl
 
-no-close : (x a y : Bool) → x && a ≡ false → x && (a || false) || y && (a && false) ≡ false
+pub no-close : (x a y : Bool) → x && a ≡ false → x && (a || false) || y && (a && false) ≡ false
 no-close true true y h = h
 no-close true false true h = h
 no-close true false false h = h
@@ -84,11 +84,11 @@ module _ (C : Chip) (r : Record) (p : Past) where
   on-own : on (bankOf (r ∷ p)) (r ∷ p) ≡ true
   on-own = eq-eqb (bankOf (r ∷ p)) (bankOf (r ∷ p)) refl
 
-  closes-own : closes own (r ∷ p) ≡ running.shutsNow c r
+  pub closes-own : closes own (r ∷ p) ≡ running.shutsNow c r
   closes-own = rw on-own (own-close (is Pre (r ∷ p)) (a10 r) (is Rd (r ∷ p) || is Wr (r ∷ p)))
 
   -- the start, worked out from the ACT of the bank that closes
-  start-now : (b : ℕ) → closes b (r ∷ p) ≡ true → running.startNow C c e (regs (r ∷ p)) (edge (latest (actOn b) p)) ≡ start C (r ∷ p)
+  pub start-now : (b : ℕ) → closes b (r ∷ p) ≡ true → running.startNow C c e (regs (r ∷ p)) (edge (latest (actOn b) p)) ≡ start C (r ∷ p)
   unfolding start running.startNow
   start-now b y = go (closing-by b (r ∷ p) y)
     where

@@ -57,7 +57,7 @@ first-said clean w = refl
 first-said (stop t n Fine) w = refl
 first-said (stop t n (Broken k x m f)) w = refl
 
-sooner-first : (x y : Late) → sooner x y .at ≤ x .at
+pub sooner-first : (x y : Late) → sooner x y .at ≤ x .at
 unfolding sooner
 sooner-first x y = go (leb (x .at) (y .at)) refl
   where
@@ -66,11 +66,11 @@ sooner-first x y = go (leb (x .at) (y .at)) refl
     go false h = omega (arith, leb-false)
 
 -- the deadline x, if it passes before the edge e
-abbrev passing : Late → ℕ → Outcome
+abbrev pub passing : Late → ℕ → Outcome
 passing x e = cond (ltb (x .at) e) (stop (x .at) 0 (why x)) clean
 
 -- by number: what the record breaks, then the two deadlines
-said-by-number :
+pub said-by-number :
     (e n : ℕ) (b c d : Break)
     → first (verdictAt e n b) (first (verdictAt e 0 c) (verdictAt e 0 d)) ≡ said (keep (told e n b) (keep (told e 0 c) (told e 0 d)))
 said-by-number e n b c d =

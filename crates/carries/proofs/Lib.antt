@@ -1,0 +1,16 @@
+pub mod Summary
+pub mod Views
+pub mod Latest
+pub mod Shut
+pub mod Marks
+pub mod Stores
+pub mod Moves
+pub mod Asks
+pub mod Debts
+pub mod Moved
+pub mod Broken
+pub mod Gap
+pub mod Says
+pub mod Whole
+pub mod Closing
+pub mod Waiting

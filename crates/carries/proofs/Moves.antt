@@ -1,0 +1,205 @@
+-- A record changes the banks, the ring of ACTs and the device of the summary as the step changes them.
+-- Assumes nothing.
+use Prim.Native.Nat.{ℕ, zero, suc, _+_, _%_, _<_}
+use native.Mathlib.Omega.{arith}
+use mathlib.Core.Path.{_≡_, refl, sym, ap, _∙_, fun-ext}
+use mathlib.Core.Logic.{⊎-elim}
+use mathlib.Core.Bool.{Bool, true, false, cond, _&&_, _||_}
+use mathlib.Core.List.{[], _∷_}
+use lib.Dec.{eqb, ltb}
+use lib.ListN.{set}
+use borrow.Author.Tests.{ltb-true}
+use Rattle.laws.proofs.Eight.{getD-table}
+use Rattle.answers.specs.declared.Break.the-variants.{Fine}
+use Rattle.records.specs.declared.Record.{Record}
+use Rattle.records.specs.declared.Command.{Command}
+use Rattle.records.specs.declared.Command.the-variants.{Mrs, Ref, Pre, Act, Wr, Rd, Zq, Sre, Srx}
+use Rattle.records.specs.Command.{a10, bankIn, rank}
+use Rattle.registers.specs.Allowed.{allowed}
+use Rattle.chip.specs.declared.Chip.{Chip}
+use Rattle.running.specs.Next as running
+use Rattle.running.specs.Next.{shutsNow, startNow}
+use Rattle.edges.specs.Asks as asks
+use Rattle.edges.specs.Next as edges
+use Rattle.edges.specs.Next.{setIf, startOf}
+use Rattle.rules.specs.Past.{Past, edge, number, command, is, addressOf, latest, back, has}
+use Rattle.rules.specs.Registers.{mrsTo, dllReset, regs}
+use Rattle.rules.specs.Banks.{actOn, closes, start}
+use Rattle.rules.specs.Rules.{demand, rule3, checks}
+use Rattle.rules.proofs.Generic.{decide, broken-fine}
+use Rattle.rules.proofs.Events.{both, push}
+use Rattle.rules.proofs.Clean.{Clean, Among, first, next, among-fine, clean-now, is-other, ClosedBy, by-pre, by-rd, by-wr, closing-by}
+use Rattle.rules.proofs.Starts.{start-pre}
+use Rattle.rules.proofs.Dominate.{need4, need10, need11, need13, need14, need18, need19, regs-same}
+use Rattle.rules.proofs.Moves.{closes-own, start-now}
+use Rattle.carries.proofs.Summary.{of, each, turnOf, ring, actsOf, eachRest, eachRegister, banksOf, deviceOf}
+use Rattle.carries.proofs.Views.{turn-small, ring-set}
+use Rattle.carries.proofs.Stores.{stored, column-stored, shut-stored}
+
+module _ (r : Record) (p : Past) where
+  abbrev e : ℕ
+  e = edge (r ∷ p)
+
+  abbrev n : ℕ
+  n = number (r ∷ p)
+
+  abbrev c : Command
+  c = command (r ∷ p)
+
+  -- no command but an MRS changes the registers
+  pub regs-still : (k : Command) → (rank k ≡ rank Mrs → ⊥) → is k (r ∷ p) ≡ true → regs p ≡ regs (r ∷ p)
+  regs-still k h y = regs-same p (r ∷ p) (rw (is-other k Mrs (r ∷ p) h y))
+
+  -- ── Banks ─────────────────────────────────────────────────────────────────────────────────
+
+  module _ (C : Chip) where
+    -- the start, from the ACT that is kept of the record's bank
+    pub start-kept : shutsNow c r ≡ true → startOf C c r e (regs p) (banksOf C p) ≡ start C (r ∷ p)
+    unfolding banksOf
+    start-kept y =
+        (λ i. startNow C c e (still (closing-by (bankIn r) (r ∷ p) own) i) (getD-table (λ b. edge (latest (actOn b) p)) (bankIn r) 0 (omega arith) i))
+        ∙ start-now C r p (bankIn r) own
+      where
+        own : closes (bankIn r) (r ∷ p) ≡ true
+        own = closes-own C r p ∙ y
+
+        still : ClosedBy (bankIn r) (r ∷ p) → regs p ≡ regs (r ∷ p)
+        still (by-pre a o) = regs-still Pre (λ z. omega arith) a
+        still (by-rd a o) = regs-still Rd (λ z. omega arith) a
+        still (by-wr a o) = regs-still Wr (λ z. omega arith) a
+
+    pub banks-next : edges.banksNext C c r e n (regs p) (banksOf C p) ≡ banksOf C (r ∷ p)
+    unfolding edges.banksNext banksOf
+    banks-next = λ i. record {
+      actat = act edge e (λ _. refl) i;
+      actno = act number n (λ _. refl) i;
+      actneed = act (of (need4 C)) (running.need4 C (regs p)) (λ y. ap (running.need4 C) (regs-still Act (λ z. omega arith) y)) i;
+      row = act addressOf (r .a) (λ _. refl) i;
+      colat = column-stored r p edge edge e (λ _. refl) (λ _. refl) i;
+      colno = column-stored r p number number n (λ _. refl) (λ _. refl) i;
+      colpre = column-stored r p (of (need10 C)) (of (need11 C)) (cond (is Rd (r ∷ p)) (running.need10 C (regs p)) (running.need11 C (regs p)))
+          (λ y. rw y (ap (running.need10 C) (rd y))) (λ y. rw (wr-not y) (ap (running.need11 C) (wr y))) i;
+      colturn = column-stored r p (of (need13 C)) (of (need14 C)) (cond (is Rd (r ∷ p)) (asks.need13 (regs p) r) (asks.need14 C (regs p)))
+          (λ y. rw y (ap (λ g. asks.need13 g r) (rd y))) (λ y. rw (wr-not y) (ap (asks.need14 C) (wr y))) i;
+      colout = column-stored r p (of (need19 C)) (of (λ _. 0)) (cond (is Rd (r ∷ p)) (asks.need19 (regs p) r) 0)
+          (λ y. rw y (ap (λ g. asks.need19 g r) (rd y))) (λ y. rw (wr-not y)) i;
+      shutat = shut-stored r p (of (start C)) (startOf C c r e (regs p) (banksOf C p)) e
+          (λ y. sym (start-pre C (r ∷ p) (both (is Pre (r ∷ p)) (a10 r) y .0))) start-kept i;
+      shutno = shut-stored r p number n n (λ _. refl) (λ _. refl) i;
+    }
+      where
+        act : (f : Past → ℕ) (v : ℕ) → (is Act (r ∷ p) ≡ true → v ≡ f (r ∷ p)) → setIf (is Act (r ∷ p)) (each f actOn p) (bankIn r) v ≡ each f actOn (r ∷ p)
+        act f v y = stored r p f actOn (is Act (r ∷ p)) v y (λ b. refl)
+
+        rd : is Rd (r ∷ p) ≡ true → regs p ≡ regs (r ∷ p)
+        rd y = regs-still Rd (λ z. omega arith) y
+
+        wr : is Wr (r ∷ p) ≡ true → regs p ≡ regs (r ∷ p)
+        wr y = regs-still Wr (λ z. omega arith) y
+
+        wr-not : is Wr (r ∷ p) ≡ true → is Rd (r ∷ p) ≡ false
+        wr-not y = is-other Wr Rd (r ∷ p) (λ z. omega arith) y
+
+  -- ── The last four ACTs ────────────────────────────────────────────────────────────────────
+
+  back-still : is Act (r ∷ p) ≡ false → (m : ℕ) → back (is Act) m p ≡ back (is Act) m (r ∷ p)
+  back-still z zero = rw z
+  back-still z (suc m) = rw z
+
+  pub acts-next : edges.actsNext c e n (actsOf p) ≡ actsOf (r ∷ p)
+  unfolding edges.actsNext actsOf turnOf
+  acts-next = λ i. record { at = part edge i; no = part number i; turn = turnOf (r ∷ p) }
+    where
+      part : (f : Past → ℕ) → setIf (is Act (r ∷ p)) (ring (turnOf p) (λ m. f (back (is Act) m p))) (turnOf p) (f (r ∷ p))
+          ≡ ring (cond (is Act (r ∷ p)) ((turnOf p + 1) % 4) (turnOf p)) (λ m. f (back (is Act) m (r ∷ p)))
+      part f = go (is Act (r ∷ p)) refl
+        where
+          go : (x : Bool) → is Act (r ∷ p) ≡ x → setIf x (ring (turnOf p) (λ m. f (back (is Act) m p))) (turnOf p) (f (r ∷ p))
+              ≡ ring (cond x ((turnOf p + 1) % 4) (turnOf p)) (λ m. f (back (is Act) m (r ∷ p)))
+          go true y =
+              ring-set (turnOf p) (λ m. f (back (is Act) m p)) (λ m. f (back (is Act) m (r ∷ p))) (f (r ∷ p)) (turn-small p) (rw y) (λ m. rw y)
+          go false z = ap (λ (g : ℕ → Past). ring (turnOf p) (λ m. f (g m))) (fun-ext (back-still z))
+
+  -- ── The device ────────────────────────────────────────────────────────────────────────────
+
+  -- an MRS of a clean past is to one of the four registers
+  mrs-small : (C : Chip) → Clean C (r ∷ p) → is Mrs (r ∷ p) ≡ true → bankIn r < 4
+  mrs-small C h y =
+      let a : Among (rule3 C) (checks C) = next (next first) in
+      let w : demand (ltb (bankIn r) 4 && allowed (C .header) (bankIn r) (r .a)) ≡ Fine = rw y at (among-fine r p a (clean-now C r p h)) in
+      ltb-true (bankIn r) 4 (both (ltb (bankIn r) 4) (allowed (C .header) (bankIn r) (r .a)) (demanded _ w) .0)
+    where
+      demanded : (x : Bool) → demand x ≡ Fine → x ≡ true
+      demanded true z = refl
+      demanded false z = absurd (broken-fine z)
+
+  -- one of six changes where its test holds
+  stamped-is :
+      (a0 a1 a2 a3 a4 a5 v0 v1 v2 v3 v4 v5 : ℕ)
+      → edges.stamped c r (a0 ∷ a1 ∷ a2 ∷ a3 ∷ a4 ∷ a5 ∷ []) v0 v1 v2 v3 v4 v5
+      ≡ cond (is Ref (r ∷ p)) v0 a0 ∷ cond (is Mrs (r ∷ p)) v1 a1 ∷ cond (is Zq (r ∷ p)) v2 a2 ∷ cond (is Sre (r ∷ p)) v3 a3
+      ∷ cond (is Srx (r ∷ p)) v4 a4 ∷ cond (dllReset (r ∷ p)) v5 a5 ∷ []
+  stamped-is a0 a1 a2 a3 a4 a5 v0 v1 v2 v3 v4 v5 = six (is Ref (r ∷ p)) (is Mrs (r ∷ p)) (is Zq (r ∷ p)) (is Sre (r ∷ p)) (is Srx (r ∷ p)) (dllReset (r ∷ p))
+    where
+      six : (x0 x1 x2 x3 x4 x5 : Bool)
+          → setIf x5 (setIf x4 (setIf x3 (setIf x2 (setIf x1 (setIf x0 (a0 ∷ a1 ∷ a2 ∷ a3 ∷ a4 ∷ a5 ∷ []) 0 v0) 1 v1) 2 v2) 3 v3) 4 v4) 5 v5
+          ≡ cond x0 v0 a0 ∷ cond x1 v1 a1 ∷ cond x2 v2 a2 ∷ cond x3 v3 a3 ∷ cond x4 v4 a4 ∷ cond x5 v5 a5 ∷ []
+      six x0 x1 x2 x3 x4 x5 =
+          ap (λ l. setIf x5 (setIf x4 (setIf x3 (setIf x2 (setIf x1 l 1 v1) 2 v2) 3 v3) 4 v4) 5 v5)
+          (push (λ y. y ∷ a1 ∷ a2 ∷ a3 ∷ a4 ∷ a5 ∷ []) x0 v0 a0)
+          ∙ ap (λ l. setIf x5 (setIf x4 (setIf x3 (setIf x2 l 2 v2) 3 v3) 4 v4) 5 v5)
+          (push (λ y. cond x0 v0 a0 ∷ y ∷ a2 ∷ a3 ∷ a4 ∷ a5 ∷ []) x1 v1 a1)
+          ∙ ap (λ l. setIf x5 (setIf x4 (setIf x3 l 3 v3) 4 v4) 5 v5)
+          (push (λ y. cond x0 v0 a0 ∷ cond x1 v1 a1 ∷ y ∷ a3 ∷ a4 ∷ a5 ∷ []) x2 v2 a2)
+          ∙ ap (λ l. setIf x5 (setIf x4 l 4 v4) 5 v5)
+          (push (λ y. cond x0 v0 a0 ∷ cond x1 v1 a1 ∷ cond x2 v2 a2 ∷ y ∷ a4 ∷ a5 ∷ []) x3 v3 a3)
+          ∙ ap (λ l. setIf x5 l 5 v5)
+          (push (λ y. cond x0 v0 a0 ∷ cond x1 v1 a1 ∷ cond x2 v2 a2 ∷ cond x3 v3 a3 ∷ y ∷ a5 ∷ []) x4 v4 a4)
+          ∙ push (λ y. cond x0 v0 a0 ∷ cond x1 v1 a1 ∷ cond x2 v2 a2 ∷ cond x3 v3 a3 ∷ cond x4 v4 a4 ∷ y ∷ []) x5 v5 a5
+
+  stamped-next :
+      (f0 f1 f2 f3 f4 f5 : Past → ℕ)
+      → edges.stamped c r (eachRest f0 f1 f2 f3 f4 f5 p) (f0 (r ∷ p)) (f1 (r ∷ p)) (f2 (r ∷ p)) (f3 (r ∷ p)) (f4 (r ∷ p)) (f5 (r ∷ p))
+      ≡ eachRest f0 f1 f2 f3 f4 f5 (r ∷ p)
+  stamped-next f0 f1 f2 f3 f4 f5 =
+      stamped-is _ _ _ _ _ _ (f0 (r ∷ p)) (f1 (r ∷ p)) (f2 (r ∷ p)) (f3 (r ∷ p)) (f4 (r ∷ p)) (f5 (r ∷ p))
+      ∙ (λ i. push f0 (is Ref (r ∷ p)) (r ∷ p) (latest (is Ref) p) i ∷ push f1 (is Mrs (r ∷ p)) (r ∷ p) (latest (is Mrs) p) i
+      ∷ push f2 (is Zq (r ∷ p)) (r ∷ p) (latest (is Zq) p) i ∷ push f3 (is Sre (r ∷ p)) (r ∷ p) (latest (is Sre) p) i
+      ∷ push f4 (is Srx (r ∷ p)) (r ∷ p) (latest (is Srx) p) i ∷ push f5 (dllReset (r ∷ p)) (r ∷ p) (latest dllReset p) i ∷ [])
+
+  -- a store at the register's place
+  four-set : {A : Type 0} (b : ℕ) (f : ℕ → A) (v : A) → b < 4 → set (eachRegister f) (b % 4) v ≡ eachRegister (λ n. cond (eqb b n) v (f n))
+  four-set zero f v l = refl
+  four-set (suc zero) f v l = refl
+  four-set (suc (suc zero)) f v l = refl
+  four-set (suc (suc (suc zero))) f v l = refl
+  four-set (suc (suc (suc (suc b)))) f v l = absurd (omega arith)
+
+  registers-next : {A : Type 0} (C : Chip) → Clean C (r ∷ p) → (f g : ℕ → A) (v : A) → ((n : ℕ) → cond (mrsTo n (r ∷ p)) v (f n) ≡ g n)
+      → setIf (is Mrs (r ∷ p)) (eachRegister f) (bankIn r % 4) v ≡ eachRegister g
+  registers-next C h f g v same = ⊎-elim
+      (λ (y : is Mrs (r ∷ p) ≡ true).
+      rw y (four-set (bankIn r) f v (mrs-small C h y) ∙ (λ i. now y 0 i ∷ now y 1 i ∷ now y 2 i ∷ now y 3 i ∷ [])))
+      (λ (z : is Mrs (r ∷ p) ≡ false). rw z (λ i. old z 0 i ∷ old z 1 i ∷ old z 2 i ∷ old z 3 i ∷ []))
+      (decide (is Mrs (r ∷ p)))
+    where
+      now : is Mrs (r ∷ p) ≡ true → (n : ℕ) → cond (eqb (bankIn r) n) v (f n) ≡ g n
+      now y n = ap (λ x. cond (x && eqb (bankIn r) n) v (f n)) (sym y) ∙ same n
+
+      old : is Mrs (r ∷ p) ≡ false → (n : ℕ) → f n ≡ g n
+      old z n = ap (λ x. cond (x && eqb (bankIn r) n) v (f n)) (sym z) ∙ same n
+
+  pub device-next : (C : Chip) → Clean C (r ∷ p) → edges.deviceNext C c r e n (deviceOf C p) ≡ deviceOf C (r ∷ p)
+  unfolding edges.deviceNext deviceOf
+  device-next C h = λ i. record {
+    at = stamped-next edge edge edge edge edge edge i;
+    no = stamped-next number number number number number number i;
+    need = stamped-next (of (λ _. C .trfc)) (of (λ _. 4)) (of (need18 C)) (of (λ _. C .tcke + 1)) (of (λ _. C .txs)) (of (λ _. 512)) i;
+    codes = registers-next C h (λ m. addressOf (latest (mrsTo m) p)) (λ m. addressOf (latest (mrsTo m) (r ∷ p))) (r .a)
+        (λ m. push addressOf (mrsTo m (r ∷ p)) (r ∷ p) (latest (mrsTo m) p)) i;
+    written = registers-next C h (λ m. has (mrsTo m) p) (λ m. has (mrsTo m) (r ∷ p)) true (λ m. or-is (mrsTo m (r ∷ p)) (has (mrsTo m) p)) i;
+  }
+    where
+      or-is : (x y : Bool) → cond x true y ≡ x || y
+      or-is true y = refl
+      or-is false y = refl

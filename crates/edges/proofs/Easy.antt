@@ -1,0 +1,67 @@
+-- Where no deadline passes, a record that breaks nothing says nothing.
+-- Assumes nothing.
+use Prim.Native.Nat.{ℕ, _+_, _≤_, _<_}
+use native.Mathlib.Omega.{arith}
+use mathlib.Core.Bool.{Bool, true, false, cond, not, _&&_}
+use mathlib.Core.Logic.{_⊎_, inl, inr, ⊎-elim}
+use mathlib.Core.Path.{_≡_, refl, ap, _∙_}
+use lib.Dec.{leb, ltb}
+use lib.ListN.{getD}
+use borrow.Author.Tests.{le-ltb, le-leb, lt-leb, ne-eqb}
+use Rattle.answers.specs.declared.Break.{Break}
+use Rattle.answers.specs.declared.Break.the-variants.{Fine}
+use Rattle.answers.specs.declared.Verdict.{Verdict}
+use Rattle.records.specs.declared.Record.{Record}
+use Rattle.records.specs.declared.Command.{Command}
+use Rattle.records.specs.declared.Command.the-variants.{Ref}
+use Rattle.records.specs.Command.{isA}
+use Rattle.chip.specs.declared.Chip.{Chip}
+use Rattle.running.specs.declared.Late.{Late}
+use Rattle.running.specs.declared.Pick.{Pick}
+use Rattle.running.specs.Late.{soonest, sooner, late24, why}
+use Rattle.running.specs.Said.{noVerdict}
+use Rattle.running.proofs.Easing.{soonest-none}
+use Rattle.edges.specs.declared.Banks.{Banks}
+use Rattle.edges.specs.declared.Debt.{Debt}
+use Rattle.edges.specs.declared.Rank.{Rank}
+use Rattle.edges.specs.Says.{duesOf, next24, next25, brokenIn, owing, saysBy, saysOf, commandIn, refreshed}
+
+-- no bank comes due after the edge lo and up to e
+abbrev pub NoneDue : Chip → Banks → (lo e : ℕ) → Type 0
+NoneDue C B lo e = (b : ℕ) → b < 8 → (getD (duesOf C B) b 0 ≤ lo) ⊎ (e < getD (duesOf C B) b 0)
+
+-- 9 is not owed by e
+abbrev pub NotOwed : Debt → (e : ℕ) → Type 0
+NotOwed D e = (D .sleeps ≡ true) ⊎ (e < D .due)
+
+not-24 : (C : Chip) (B : Banks) (lo e : ℕ) → NoneDue C B lo e → next24 C B lo (e + 1) .at ≡ e + 1
+unfolding next24
+not-24 C B lo e h =
+    ap (λ (k : Pick). k .at) (soonest-none (duesOf C B) lo (e + 1) 8 (λ b l. ⊎-elim (λ x. inl x) (λ x. inr (omega (arith, x))) (h b l)))
+
+not-25 : (D : Debt) (n e : ℕ) → NotOwed D e → e < next25 D n (e + 1) .at
+not-25 D n e (inl x) = rw x (omega arith)
+not-25 D n e (inr x) = go (D .sleeps)
+  where
+    go : (y : Bool) → e < cond y (e + 1) (D .due)
+    go true = omega arith
+    go false = x
+
+none-said : (e n : ℕ) (x y : Late) (o : Break) → x .at ≡ e + 1 → e < y .at → o ≡ Fine → saysBy e n x y Fine o ≡ noVerdict
+unfolding saysBy sooner
+none-said e n x y o p q z =
+    rw (le-leb (x .at) (y .at) (omega arith), le-ltb (x .at) e (omega arith), ne-eqb (x .at) e (λ w. omega arith), z)
+
+not-owing : (c : Command) (e : ℕ) (x : Late) → e < x .at → owing c e x ≡ Fine
+not-owing c e x l = rw (lt-leb (x .at) e l)
+
+pub says-none :
+    (C : Chip) (s : Rank) (r : Record) → NoneDue C (s .banks) (s .edge) (s .edge + r .step) → NotOwed (s .debt) (s .edge + r .step)
+    → brokenIn C s r (s .edge + r .step) ≡ Fine → saysOf C s r ≡ noVerdict
+unfolding saysOf
+says-none C s r u v w =
+    let e = s .edge + r .step in
+    let q = not-25 (s .debt) (refreshed s) e v in
+    rw w (none-said e (s .count + 1) (next24 C (s .banks) (s .edge) (e + 1)) (next25 (s .debt) (refreshed s) (e + 1))
+    (owing (commandIn s r) e (next25 (s .debt) (refreshed s) (e + 1)))
+    (not-24 C (s .banks) (s .edge) e u) q (not-owing (commandIn s r) e (next25 (s .debt) (refreshed s) (e + 1)) q))

@@ -1,0 +1,230 @@
+-- The ranges of check 17 as facts, and that a record keeps them.
+-- Assumes nothing.
+use Prim.Native.Nat.{ℕ, zero, suc, _+_, _*_, _-_, _/_, _%_, _≤_, _<_}
+use native.Mathlib.Omega.{arith}
+use native.Mathlib.Decide.{ℕ-discrete}
+use mathlib.Core.Bool.{Bool, true, false, cond, _||_}
+use mathlib.Core.List.{List}
+use mathlib.Core.Path.{_≡_, refl, sym, subst}
+use lib.Dec.{leb, ltb}
+use lib.ListN.{getD, length}
+use borrow.Author.Tests.{leb-true, ltb-true, ltb-false, le-leb, le-ltb, eq-eqb}
+use Rattle.laws.proofs.Eight.{at-set}
+use Rattle.answers.specs.declared.Break.{Break}
+use Rattle.answers.specs.declared.Break.the-variants.{Fine, Broken}
+use Rattle.answers.specs.declared.Verdict.{Verdict}
+use Rattle.records.specs.declared.Record.{Record}
+use Rattle.records.specs.declared.Command.{Command}
+use Rattle.records.specs.declared.Command.the-variants.{Act, Ref, Sre, Srx}
+use Rattle.records.specs.Command.{isA, bankIn}
+use Rattle.records.specs.Record.{records, hasZero}
+use Rattle.chip.specs.declared.Chip.{Chip}
+use Rattle.running.specs.declared.Late.{Late}
+use Rattle.running.specs.Late.{why, sooner}
+use Rattle.running.specs.Said.{isClean, first, verdictAt, lateAt}
+use Rattle.running.specs.Ranges.{limit, lastEdge, counted, Small}
+use Rattle.running.proofs.Both.{both}
+use Rattle.running.proofs.Ranging.{small-test}
+use Rattle.edges.specs.declared.Debt.{Debt}
+use Rattle.edges.specs.declared.Rank.{Rank}
+use Rattle.edges.specs.Next.{setIf, counting, paid, debtNext, banksNext, actsNext}
+use Rattle.edges.specs.Says.{commandIn, saysBy, saysOf}
+use Rattle.edges.specs.Step.{movedOf, stoppedOf, stepOf, foldOf}
+use Rattle.edges.specs.Ranges.{edgesOk, farthest, rankInRange, Ranged}
+use Rattle.edges.specs.Ends.{takenOf, endOf, endedOf}
+
+-- ── The test and the facts ──────────────────────────────────────────────────────────────────
+
+edges-at : (xs : List ℕ) (n : ℕ) → edgesOk xs n ≡ true → (b : ℕ) → b < n → getD xs b 0 ≤ lastEdge
+unfolding edgesOk
+edges-at xs zero h b l = absurd (omega arith)
+edges-at xs (suc n) h b l =
+    let w = both (edgesOk xs n) (leb (getD xs n 0) lastEdge) h in
+    elim (ℕ-discrete b n) [
+      | yes e ↦ subst (λ (m : ℕ). getD xs m 0 ≤ lastEdge) (sym e) (leb-true _ _ (w .1))
+      | no e ↦ edges-at xs n (w .0) b (omega arith)
+    ]
+
+edges-ok : (xs : List ℕ) (n : ℕ) → ((b : ℕ) → b < n → getD xs b 0 ≤ lastEdge) → edgesOk xs n ≡ true
+unfolding edgesOk
+edges-ok xs zero h = refl
+edges-ok xs (suc n) h = rw (edges-ok xs n (λ b l. h b (omega arith)), le-leb (getD xs n 0) lastEdge (h n (omega arith)))
+
+count-facts : (count edge : ℕ) → counted count edge ≡ true → (count ≤ limit) × (edge ≤ count * 16777216)
+count-facts count edge h = go (ltb limit count) refl h
+  where
+    go : (x : Bool) → ltb limit count ≡ x → cond x false (leb edge (count * 16777216)) ≡ true → (count ≤ limit) × (edge ≤ count * 16777216)
+    go true e z = let n : _≡_ {A = ℕ} 0 1 = cc in absurd (omega arith)
+    go false e z = (ltb-false _ _ e, leb-true _ _ z)
+
+pub ranged : (s : Rank) → rankInRange s ≡ true → Ranged s
+unfolding rankInRange
+ranged s h =
+    let a = both _ _ h in
+    let n = count-facts (s .count) (s .edge) (a .0) in
+    let d = both _ _ (a .1) in
+    let t = both _ _ (d .1) in
+    let f = both _ _ (t .1) in
+    let b = both _ _ (f .1) in
+    record {
+      edge = n .1;
+      count = n .0;
+      debt = leb-true _ _ (d .0);
+      turn = leb-true _ _ (t .0);
+      broke = leb-true _ _ (f .0);
+      acted = edges-at (s .banks .actat) 8 (b .0);
+      ring = edges-at (s .acts .at) 4 (b .1);
+    }
+
+pub in-range : (s : Rank) → Ranged s → rankInRange s ≡ true
+unfolding rankInRange
+in-range s r =
+    rw (
+      le-ltb limit (s .count) (r .count),
+      le-leb (s .edge) (s .count * 16777216) (r .edge),
+      le-leb (s .debt .due - counting (s .debt) (s .edge)) farthest (r .debt),
+      le-leb (s .acts .turn) 3 (r .turn),
+      le-leb (s .first .edge) lastEdge (r .broke),
+      edges-ok (s .banks .actat) 8 (r .acted),
+      edges-ok (s .acts .at) 4 (r .ring),
+    )
+
+-- ── What is said is said of an edge up to the record's ──────────────────────────────────────
+
+told-edge : (e n : ℕ) (b : Break) → verdictAt e n b .edge ≤ e
+told-edge e n Fine = omega arith
+told-edge e n (Broken k p m f) = omega arith
+
+first-edge : (e : ℕ) (v w : Verdict) → v .edge ≤ e → w .edge ≤ e → first v w .edge ≤ e
+first-edge e v w a b = go (isClean v)
+  where
+    go : (x : Bool) → cond x w v .edge ≤ e
+    go true = b
+    go false = a
+
+says-edge : (e n : ℕ) (x24 x25 : Late) (b o : Break) → saysBy e n x24 x25 b o .edge ≤ e
+unfolding saysBy
+says-edge e n x24 x25 b o = before (ltb (sooner x24 x25 .at) e) refl
+  where
+    before : (x : Bool) → ltb (sooner x24 x25 .at) e ≡ x
+        → cond x (verdictAt (sooner x24 x25 .at) 0 (why (sooner x24 x25)))
+        (first (verdictAt e n b) (first (verdictAt e 0 (lateAt e x24)) (verdictAt e 0 o))) .edge ≤ e
+    before true z = omega (arith, ltb-true (sooner x24 x25 .at) e z)
+    before false z =
+        first-edge e (verdictAt e n b) (first (verdictAt e 0 (lateAt e x24)) (verdictAt e 0 o)) (told-edge e n b)
+        (first-edge e (verdictAt e 0 (lateAt e x24)) (verdictAt e 0 o) (told-edge e 0 (lateAt e x24)) (told-edge e 0 o))
+
+said-edge : (C : Chip) (s : Rank) (r : Record) → saysOf C s r .edge ≤ s .edge + r .step
+unfolding saysOf
+said-edge C s r = says-edge _ _ _ _ _ _
+
+-- ── A record keeps the ranges ───────────────────────────────────────────────────────────────
+
+-- an edge that is stored, or not
+stored : (x : Bool) (xs : List ℕ) (i e b : ℕ) → e ≤ lastEdge → getD xs b 0 ≤ lastEdge → getD (setIf x xs i e) b 0 ≤ lastEdge
+stored true xs i e b l m = at-set (λ n. n ≤ lastEdge) 0 xs i e b l m
+stored false xs i e b l m = m
+
+turned : (x : Bool) (n : ℕ) → n ≤ 3 → cond x ((n + 1) % 4) n ≤ 3
+turned true n l = omega arith
+turned false n l = l
+
+module _ (C : Chip) (small : Small C) where
+  paid-near : (e d : ℕ) → d - e ≤ farthest → paid (C .trefi) e d - e ≤ farthest
+  paid-near e d l = go (leb d (e + 16 * C .trefi)) refl
+    where
+      go : (x : Bool) → leb d (e + 16 * C .trefi) ≡ x → cond x (d + C .trefi) d - e ≤ farthest
+      go true z = omega (arith, leb-true d (e + 16 * C .trefi) z, small .trefi)
+      go false z = l
+
+  debt-near : (c : Command) (e : ℕ) (D : Debt) → D .due - counting D e ≤ farthest → debtNext C c e D .due - counting (debtNext C c e D) e ≤ farthest
+  unfolding debtNext
+  debt-near c e D l = go (isA Ref c) (isA Sre c) (isA Srx c)
+    where
+      woken : (x : Bool) → D .due - cond x 0 e ≤ farthest → cond x (D .due + e) (D .due) - e ≤ farthest
+      woken true m = omega arith
+      woken false m = m
+
+      paidOf : Debt
+      paidOf = record { sleeps = D .sleeps; due = paid (C .trefi) (counting D e) (D .due) }
+
+      sleptOf : Debt
+      sleptOf = record { sleeps = true; due = D .due - counting D e }
+
+      wokenOf : Debt
+      wokenOf = record { sleeps = false; due = cond (D .sleeps) (D .due + e) (D .due) }
+
+      by : (x y z : Bool) → Debt
+      by x y z = cond x paidOf (cond y sleptOf (cond z wokenOf D))
+
+      go : (x y z : Bool) → by x y z .due - counting (by x y z) e ≤ farthest
+      go true y z = paid-near (counting D e) (D .due) l
+      go false true z = omega (arith, l)
+      go false false true = woken (D .sleeps) l
+      go false false false = l
+
+  -- what one more record leaves
+  abbrev Goes : Rank → Rank → Type 0
+  Goes s m = Ranged m × (m .count ≡ s .count + 1)
+
+  module _ (s : Rank) (r : Record) (range : Ranged s) (room : s .count + 1 ≤ limit) (short : r .step ≤ 16777216) where
+    -- a later edge leaves no more clocks
+    later : s .debt .due - counting (s .debt) (s .edge + r .step) ≤ farthest
+    later = go (s .debt .sleeps) (range .debt)
+      where
+        go : (x : Bool) → s .debt .due - cond x 0 (s .edge) ≤ farthest → s .debt .due - cond x 0 (s .edge + r .step) ≤ farthest
+        go true l = l
+        go false l = omega arith
+
+    stopped-goes : (v : Verdict) → v .edge ≤ lastEdge → Goes s (stoppedOf s r v)
+    unfolding stoppedOf
+    stopped-goes v l = (
+      record {
+        edge = omega (arith, range .edge);
+        count = room;
+        debt = later;
+        turn = range .turn;
+        broke = l;
+        acted = range .acted;
+        ring = range .ring;
+      },
+      refl,
+    )
+
+    moved-goes : Goes s (movedOf C s r)
+    unfolding movedOf banksNext actsNext
+    moved-goes = (
+      record {
+        edge = omega (arith, range .edge);
+        count = room;
+        debt = debt-near (commandIn s r) (s .edge + r .step) (s .debt) later;
+        turn = turned (isA Act (commandIn s r)) (s .acts .turn) (range .turn);
+        broke = range .broke;
+        acted = λ b l. stored (isA Act (commandIn s r)) (s .banks .actat) (bankIn r) (s .edge + r .step) b (omega (arith, range .edge)) (range .acted b l);
+        ring = λ i l. stored (isA Act (commandIn s r)) (s .acts .at) (s .acts .turn) (s .edge + r .step) i (omega (arith, range .edge)) (range .ring i l);
+      },
+      refl,
+    )
+
+    pub step-goes : Goes s (stepOf C s r)
+    unfolding stepOf
+    step-goes = go (isClean (s .first)) (isClean (saysOf C s r))
+      where
+        go : (x y : Bool) → Goes s (cond x (cond y (movedOf C s r) (stoppedOf s r (saysOf C s r))) (stoppedOf s r (s .first)))
+        go true true = moved-goes
+        go true false = stopped-goes (saysOf C s r) (omega (arith, said-edge C s r, range .edge))
+        go false y = stopped-goes (s .first) (range .broke)
+
+-- ── Where no sum can wrap, a rank takes its records and has an end ──────────────────────────
+
+module _ (C : Chip) (small : Small C) (n : Rank) (range : rankInRange n ≡ true) where
+  pub taken-folds :
+      (bs : List ℕ) → length bs % 6 ≡ 0 → n .count + length bs / 6 ≤ limit
+      → takenOf C n bs
+      ≡ cond (hasZero (records bs)) (record { zero = true; rank = n }) (record { zero = false; rank = foldOf C n (records bs) })
+  unfolding takenOf
+  taken-folds bs sixes room = rw (eq-eqb _ _ sixes, le-ltb _ _ room, range, small-test C small)
+
+  pub ended-ends : (t : ℕ) → ltb t (n .edge) || ltb lastEdge t ≡ false → endedOf C n t ≡ endOf C n t
+  unfolding endedOf
+  ended-ends t within = rw (small-test C small, range, within)

@@ -1,0 +1,12 @@
+pub mod Views
+pub mod Asks
+pub mod Next
+pub mod Says
+pub mod Step
+pub mod Floors
+pub mod Ways
+pub mod Seldom
+pub mod Running
+pub mod Ranges
+pub mod Folding
+pub mod Ends

@@ -1,0 +1,82 @@
+-- What is said of a record: the gap before it, its edge, and rules 1 to 25.
+-- Assumes nothing.
+use Prim.Native.Nat.{ℕ, _+_}
+use mathlib.Core.Bool.{Bool, cond, not, _&&_}
+use mathlib.Core.List.{List}
+use lib.Dec.{leb, ltb}
+use lib.ListN.{getD}
+use Rattle.laws.specs.Eight.{table}
+use Rattle.answers.specs.declared.Break.{Break}
+use Rattle.answers.specs.declared.Break.the-variants.{Fine}
+use Rattle.answers.specs.declared.Verdict.{Verdict}
+use Rattle.records.specs.declared.Record.{Record}
+use Rattle.records.specs.declared.Command.{Command}
+use Rattle.records.specs.declared.Command.the-variants.{Ref, Srx}
+use Rattle.records.specs.Command.{commandOf, isA, bankIn}
+use Rattle.chip.specs.declared.Chip.{Chip}
+use Rattle.running.specs.declared.Shared.{Shared}
+use Rattle.running.specs.declared.Late.{Late}
+use Rattle.running.specs.Breaks.{whenIs, joined, rule2, rule3, rule23, spacings}
+use Rattle.running.specs.Late.{why, sooner, late24, soonest}
+use Rattle.running.specs.Next.{due}
+use Rattle.running.specs.Said.{first, verdictAt, lateAt}
+use Rattle.edges.specs.declared.Banks.{Banks}
+use Rattle.edges.specs.declared.Debt.{Debt}
+use Rattle.edges.specs.declared.Rank.{Rank}
+use Rattle.edges.specs.Views.{keptOf, keptsOf, sharedOf, writtenOf, REF}
+use Rattle.edges.specs.Asks.{waitFor}
+
+-- ── Deadlines ───────────────────────────────────────────────────────────────────────────────
+
+-- for each bank the edge at which it breaks rule 24, if that lies after the latest record; 0: none
+unfoldable pub duesOf : Chip → Banks → List ℕ
+duesOf C B = table (λ b. due C (keptOf C B b))
+
+-- rule 24 after the edge lo and before hi; at hi if there is none
+unfoldable pub next24 : Chip → Banks → (lo hi : ℕ) → Late
+next24 C B lo hi = late24 (soonest (duesOf C B) lo hi 8 .at) (getD (B .actno) (soonest (duesOf C B) lo hi 8 .bank) 0) (C .most)
+
+-- rule 25 after the latest record; at hi where the part sleeps
+abbrev pub next25 : Debt → (partner hi : ℕ) → Late
+next25 D n hi = record { at = cond (D .sleeps) hi (D .due); rule = 25; partner = n; needed = 8; found = 9 }
+
+-- ── A record ────────────────────────────────────────────────────────────────────────────────
+
+-- rules 22 and 23, of which no waiting time tells
+abbrev pub lastRules : Command → (e : ℕ) → Shared → Break
+lastRules c e s = whenIs (isA Srx c) 22 e (s .rests .slept) (rule23 c s)
+
+abbrev pub commandIn : Rank → Record → Command
+commandIn s r = commandOf (s .level) r
+
+abbrev pub sharedIn : Chip → Rank → Shared
+sharedIn C s = sharedOf C (s .banks) (s .acts) (s .device)
+
+-- rules 4 to 23 of the record at the edge e: the marks are asked only where the waiting time is not over
+unfoldable pub spacedIn : Chip → Rank → Record → (e : ℕ) → Break
+spacedIn C s r e =
+    cond (leb (waitFor (s .waits) (commandIn s r) r) e) (lastRules (commandIn s r) e (sharedIn C s))
+    (spacings C (commandIn s r) r e (keptOf C (s .banks) (bankIn r)) (sharedIn C s))
+
+unfoldable pub brokenIn : Chip → Rank → Record → (e : ℕ) → Break
+brokenIn C s r e =
+    joined (commandIn s r) (rule2 (commandIn s r) r (keptsOf C (s .banks)) e) (rule3 C (commandIn s r) r (writtenOf (s .device))) (spacedIn C s r e)
+
+-- "broken at 9 after the edge's command": a REF pays for it
+abbrev pub owing : Command → (e : ℕ) → Late → Break
+owing c e x = cond (leb (x .at) e && not (isA Ref c)) (why x) Fine
+
+-- a deadline that passes before e; else by number what the record, number n, breaks of rules 1 to 23, and the deadlines at e
+unfoldable pub saysBy : (e n : ℕ) → (x24 x25 : Late) → (broken owing : Break) → Verdict
+saysBy e n x24 x25 b o =
+    cond (ltb (sooner x24 x25 .at) e) (verdictAt (sooner x24 x25 .at) 0 (why (sooner x24 x25)))
+    (first (verdictAt e n b) (first (verdictAt e 0 (lateAt e x24)) (verdictAt e 0 o)))
+
+abbrev pub refreshed : Rank → ℕ
+refreshed s = getD (s .device .no) REF 0
+
+unfoldable pub saysOf : Chip → Rank → Record → Verdict
+saysOf C s r =
+    let e = s .edge + r .step in
+    let x25 = next25 (s .debt) (refreshed s) (e + 1) in
+    saysBy e (s .count + 1) (next24 C (s .banks) (s .edge) (e + 1)) x25 (brokenIn C s r e) (owing (commandIn s r) e x25)

@@ -1,0 +1,51 @@
+// May a seldom command come, where no deadline passes? Where this says no it may come all the same.
+use crate::seldom::may_all;
+use crate::seldom::may_rest;
+use crate::seldom::may_set;
+use crate::seldom::may_wake;
+use edges::Floor;
+use header::Header;
+use records::Command;
+use records::Record;
+ghost use mathlib.Core.Bool.{true};
+ghost use mathlib.Core.Path.{_≡_};
+ghost use Rattle.edges.specs.Seldom as seldom;
+
+pub(crate) fn may(
+    actno: &[u32; 8],
+    shutat: &[u64; 8],
+    shutno: &[u32; 8],
+    pre: &[u64; 8],
+    holds: &[u64; 4],
+    at: &[u64; 6],
+    num: &[u32; 6],
+    need: &[u32; 6],
+    f: Floor,
+    header: Header,
+    c: Command,
+    r: Record,
+    e: u64,
+) -> bool
+    ensures { λ x. ⌜ (x ≡ true → seldom.MayCome header c r e f (now (actno .entry)) (now (shutat .entry)) (now (shutno .entry)) (now (pre .entry)) (now (holds .entry)) (now (at .entry)) (now (num .entry)) (now (need .entry))) ⌝ }
+{
+    match c {
+        Command::Mrs => {
+            may_rest(actno, shutat, shutno, f.idle, holds[1], e) & may_set(header, r, f.out, e)
+        }
+        Command::Ref => may_rest(actno, shutat, shutno, f.idle, holds[0], e),
+        Command::Pre => may_all(actno, shutat, shutno, pre, f, r, e),
+        Command::Act => false,
+        Command::Wr => false,
+        Command::Rd => false,
+        Command::Zq => may_rest(actno, shutat, shutno, f.idle, holds[2], e),
+        Command::Nop => true,
+        Command::Des => true,
+        Command::Sre => {
+            may_rest(actno, shutat, shutno, f.idle, holds[3], e)
+                & ((f.out <= e) & (num[4] <= num[0]))
+        }
+        Command::Srx => may_wake(need[3], at[3], e),
+        Command::Low => true,
+        Command::Bad => false,
+    }
+}

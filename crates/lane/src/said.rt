@@ -1,0 +1,222 @@
+// What is said of a record: the gap before it, its edge, and rules 1 to 25.
+use crate::numbers::most_of;
+use crate::numbers::of_two;
+use crate::views::kept_of;
+use crate::views::kepts;
+use crate::views::shared_of;
+use crate::views::written_of;
+use answers::Break;
+use answers::Verdict;
+use chip::Chip;
+use edges::Banks;
+use edges::Debt;
+use edges::Rank;
+use edges::Waits;
+use kept::barred;
+use kept::first_barred;
+use kept::joined;
+use kept::last_rules;
+use kept::rule3;
+use kept::spacings;
+use kept::speaks_of_all;
+use records::Command;
+use records::Record;
+use records::command_of;
+use records::rank_of;
+use running::Kept;
+use running::Late;
+use says::first;
+use says::late_at;
+use says::late24;
+use says::sooner;
+use says::soonest;
+use says::verdict_at;
+use says::why;
+ghost use mathlib.Core.Path.{_≡_};
+ghost use Prim.Native.Nat.{ℕ, _+_, _≤_, _<_};
+ghost use lib.ListN.{getD};
+ghost use Rattle.running.specs.Breaks.{rule2};
+ghost use Rattle.running.specs.Next as next;
+ghost use Rattle.running.specs.Ranges.{Small, limit, lastEdge, farEdge};
+ghost use Rattle.edges.specs.Asks as asks;
+ghost use Rattle.edges.specs.Ranges.{Ranged};
+ghost use Rattle.edges.specs.Says as says;
+ghost use Rattle.edges.specs.Views.{keptsOf};
+
+// ── Deadlines ───────────────────────────────────────────────────────────────────────────────
+
+// The edge at which the bank breaks rule 24, or 0.
+fn due(chip: Chip, k: Kept) -> u64
+    requires { ⌜ Small chip ⌝ }
+    requires { ⌜ k .acted .at ≤ farEdge ⌝ }
+    ensures { λ r. ⌜ r ≡ next.due chip k ⌝ }
+{
+    let last = k.acted.at + chip.most as u64;
+    if k.shut.num < k.acted.num {
+        return last + 1;
+    }
+    if last < k.shut.at {
+        return last + 1;
+    }
+    0
+}
+
+fn dues_of(chip: Chip, banks: Banks) -> [u64; 8]
+    requires { ⌜ Small chip ⌝ }
+    requires { ⌜ ((b : ℕ) → b < 8 → getD (banks .actat) b 0 ≤ lastEdge) ⌝ }
+    ensures { λ r. ⌜ r ≡ says.duesOf chip banks ⌝ }
+{
+    let mut out = [0u64; 8];
+    let mut i: usize = 0;
+    while i < 8 {
+        out[i] = due(chip, kept_of(chip, banks, i));
+        i += 1;
+    }
+    out
+}
+
+// Rule 24 after the edge lo and before hi; at hi if there is none.
+pub(crate) fn next24(chip: Chip, banks: Banks, lo: u64, hi: u64) -> Late
+    requires { ⌜ Small chip ⌝ }
+    requires { ⌜ ((b : ℕ) → b < 8 → getD (banks .actat) b 0 ≤ lastEdge) ⌝ }
+    ensures { λ r. ⌜ r ≡ says.next24 chip banks lo hi ⌝ }
+{
+    let actno = banks.actno;
+    let pick = soonest(dues_of(chip, banks), lo, hi);
+    let b = pick.bank as usize;
+    late24(pick.at, actno[b], chip.most)
+}
+
+// Rule 25; at hi where the part sleeps.
+pub(crate) fn next25(d: Debt, partner: u32, hi: u64) -> Late
+    ensures { λ r. ⌜ r ≡ says.next25 d partner hi ⌝ }
+{
+    Late {
+        at: of_two(d.sleeps, hi, d.due),
+        rule: 25,
+        partner: partner as u64,
+        needed: 8,
+        found: 9,
+    }
+}
+
+// ── A record ────────────────────────────────────────────────────────────────────────────────
+
+fn greatest(xs: [u64; 8]) -> u64
+    ensures { λ r. ⌜ r ≡ asks.greatest xs 8 ⌝ }
+{
+    let mut most: u64 = 0;
+    let mut i: usize = 0;
+    while i < 8 {
+        most = most_of(most, xs[i]);
+        i += 1;
+    }
+    most
+}
+
+// The edge that the record of the command c has to wait for.
+fn wait_for(w: Waits, c: Command, r: Record) -> u64
+    ensures { λ x. ⌜ x ≡ asks.waitFor w c r ⌝ }
+{
+    let act = w.act;
+    let col = w.col;
+    let pre = w.pre;
+    let holds = w.holds;
+    let b = (r.bank % 8) as usize;
+    let i = b + 8;
+    match c {
+        Command::Mrs => holds[1],
+        Command::Ref => holds[0],
+        Command::Pre => of_two(r.a / 1024 % 2 == 1, greatest(pre), pre[b]),
+        Command::Act => act[b],
+        Command::Wr => col[i],
+        Command::Rd => col[b],
+        Command::Zq => holds[2],
+        Command::Nop => 0,
+        Command::Des => 0,
+        Command::Sre => holds[3],
+        Command::Srx => 0,
+        Command::Low => 0,
+        Command::Bad => 0,
+    }
+}
+
+fn rule2_in(chip: Chip, banks: Banks, c: Command, r: Record, e: u64) -> Break
+    ensures { λ x. ⌜ x ≡ rule2 c r (keptsOf chip banks) e ⌝ }
+{
+    if speaks_of_all(c, r) {
+        return first_barred(c, kepts(chip, banks), e);
+    }
+    barred(c, kept_of(chip, banks, (r.bank % 8) as usize), e)
+}
+
+// Rules 4 to 23: the marks are asked only where the waiting time is not over.
+fn spaced_in(chip: Chip, s: Rank, c: Command, r: Record, e: u64) -> Break
+    requires { ⌜ s .acts .turn ≤ 3 ⌝ }
+    requires { ⌜ c ≡ says.commandIn s r ⌝ }
+    ensures { λ x. ⌜ x ≡ says.spacedIn chip s r e ⌝ }
+{
+    let shared = shared_of(chip, s.banks, s.acts, s.device);
+    if wait_for(s.waits, c, r) <= e {
+        return last_rules(c, e, shared);
+    }
+    spacings(
+        chip,
+        c,
+        r,
+        e,
+        kept_of(chip, s.banks, (r.bank % 8) as usize),
+        shared,
+    )
+}
+
+fn broken_in(chip: Chip, s: Rank, c: Command, r: Record, e: u64) -> Break
+    requires { ⌜ s .acts .turn ≤ 3 ⌝ }
+    requires { ⌜ c ≡ says.commandIn s r ⌝ }
+    ensures { λ x. ⌜ x ≡ says.brokenIn chip s r e ⌝ }
+{
+    let two = rule2_in(chip, s.banks, c, r, e);
+    let three = rule3(chip, c, r, written_of(s.device));
+    let spacing = spaced_in(chip, s, c, r, e);
+    joined(c, two, three, spacing)
+}
+
+// Rule 25 at the record's edge: a REF pays for it.
+fn owing(c: Command, e: u64, x: Late) -> Break
+    ensures { λ r. ⌜ r ≡ says.owing c e x ⌝ }
+{
+    if (x.at <= e) & !(rank_of(c) == 1) {
+        return why(x);
+    }
+    Break::Fine
+}
+
+// A deadline before the edge e; else by number what the record breaks, and the deadlines at e. No break: all 0.
+fn says_by(e: u64, n: u32, x24: Late, x25: Late, b: Break, o: Break) -> Verdict
+    ensures { λ r. ⌜ r ≡ says.saysBy e n x24 x25 b o ⌝ }
+{
+    let x = sooner(x24, x25);
+    if x.at < e {
+        return verdict_at(x.at, 0, why(x));
+    }
+    let own = verdict_at(e, n, b);
+    let at24 = verdict_at(e, 0, late_at(e, x24));
+    let at25 = verdict_at(e, 0, o);
+    first(own, first(at24, at25))
+}
+
+pub(crate) fn said(chip: Chip, s: Rank, r: Record) -> Verdict
+    requires { ⌜ Small chip ⌝ }
+    requires { ⌜ Ranged s ⌝ }
+    requires { ⌜ r .step ≤ 16777216 ⌝ }
+    requires { ⌜ s .count + 1 ≤ limit ⌝ }
+    ensures { λ v. ⌜ v ≡ says.saysOf chip s r ⌝ }
+{
+    let no = s.device.no;
+    let e = s.edge + r.step;
+    let c = command_of(s.level, r);
+    let x24 = next24(chip, s.banks, s.edge, e + 1);
+    let x25 = next25(s.debt, no[0], e + 1);
+    let broken = broken_in(chip, s, c, r, e);
+    says_by(e, s.count + 1, x24, x25, broken, owing(c, e, x25))
+}
