@@ -1,5 +1,5 @@
 //! The reference against the program for cuts: a recording in sections, empty and refused ones in between, the verdict so
-//! far after each, and the picture at the end. crates/sections_run/src/main.rt tells the form of a case.
+//! far and the waiting times after each, and the picture at the end. crates/sections_run/src/main.rt tells the form of a case.
 
 use crate::damage::Case;
 use crate::generate::case;
@@ -8,10 +8,10 @@ use crate::programs::printed;
 use crate::random::Random;
 use crate::recording::{section_refusal, MOST_RECORDS};
 use crate::text::{answer_text, hex};
-use crate::verdict::{judge, verdict_line, Closing};
+use crate::verdict::{judge, verdict_line, waits_after, Closing};
 
-/// Each section with its line, and the whole picture.
-const PRINT_ALL: u8 = 3;
+/// Each section with its line and the waiting times, and the whole picture.
+const PRINT_ALL: u8 = 4;
 const LAST_EDGE: u64 = (1 << 48) - 1;
 const LONGEST_HEADER: usize = 8;
 
@@ -88,9 +88,10 @@ impl Cut {
 
     fn lines(&self) -> Vec<String> {
         let opened = <&[u8; 6]>::try_from(&self.header[..]).map_err(|_| 1).and_then(read_header);
-        if let Err(refusal) = opened {
-            return vec![format!("refused {refusal}")];
-        }
+        let header = match opened {
+            Ok(header) => header,
+            Err(refusal) => return vec![format!("refused {refusal}")],
+        };
         let mut taken = self.header.clone();
         let mut lines = vec![];
         for section in &self.sections {
@@ -101,6 +102,7 @@ impl Cut {
                     lines.push(line_of(&judge(&taken, None, 20)));
                 }
             }
+            lines.push(waits_line(&waits_after(&header, &taken[6..])));
         }
         let closing = judge(&taken, self.end, 20);
         let picture = answer_text(&closing);
@@ -136,6 +138,10 @@ fn line_of(answer: &Result<Closing, u32>) -> String {
         Ok(closing) => verdict_line(&closing.verdict),
         Err(refusal) => format!("refused {refusal}"),
     }
+}
+
+fn waits_line(waits: &[i64]) -> String {
+    waits.iter().map(i64::to_string).collect::<Vec<String>>().join(" ")
 }
 
 fn difference(words: &[&str], cut: &Cut) -> Result<Option<String>, String> {

@@ -47,6 +47,7 @@ mod tally;
 mod text;
 mod vectors;
 mod verdict;
+mod waits;
 
 use std::io::{stdin, stdout, BufRead, BufWriter, Write};
 use std::process::ExitCode;

@@ -8,6 +8,7 @@ use crate::recording::{
 };
 use crate::registers::Registers;
 use crate::rules::{broken_by_record, Break};
+use crate::waits::waits;
 
 #[derive(Clone, Copy, Debug, PartialEq)]
 pub enum Verdict {
@@ -53,11 +54,22 @@ fn first_break(header: &Header, section: &[u8], end: i64) -> (Option<Break>, Vec
     (broken_in_gap(header, &past, end), past)
 }
 
-/// Once broken, banks, registers and debt stay as they were just before the broken edge.
-fn close(header: &Header, section: &[u8], end: i64) -> Closing {
+/// The first break, the last edge before it (else the end), and the records up to that edge.
+fn standing(header: &Header, section: &[u8], end: i64) -> (Option<Break>, i64, Vec<Event>) {
     let (broken, mut past) = first_break(header, section, end);
     let edge = broken.map_or(end, |broken| broken.edge - 1);
     past.retain(|event| event.edge <= edge);
+    (broken, edge, past)
+}
+
+/// The waiting times after a section's records; once broken they stay as they were just before the broken edge.
+pub fn waits_after(header: &Header, section: &[u8]) -> Vec<i64> {
+    waits(header, &standing(header, section, last_edge_of(section)).2)
+}
+
+/// Once broken, banks, registers and debt stay as they were just before the broken edge.
+fn close(header: &Header, section: &[u8], end: i64) -> Closing {
+    let (broken, edge, past) = standing(header, section, end);
     Closing {
         verdict: broken.map_or(Verdict::Clean { records: section.len() / 6, end }, Verdict::Broken),
         banks: (0..8).map(|bank| bank_at(header, &past, bank, edge)).collect(),

@@ -1,3 +1,1 @@
--- What the functions' proofs cite.
-pub mod Marking
 pub mod Answers

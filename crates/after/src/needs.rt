@@ -25,15 +25,6 @@ pub fn need19(g: Regs, a: u16) -> u32
     chip::al_of(g) + chip::cl_of(g) + chip::b_of(g, a)
 }
 
-pub fn most_of(a: u64, b: u64) -> u64
-    ensures { λ r. ⌜ r ≡ max a b ⌝ }
-{
-    if a < b {
-        return b;
-    }
-    a
-}
-
 fn less(a: u32, b: u32) -> u32
     ensures { λ r. ⌜ r ≡ a - b ⌝ }
 {

@@ -37,7 +37,7 @@ use Rattle.rules.proofs.Sense.{stays-to, stop-at, stop-after, clean-edges, earl
 use Rattle.rules.proofs.Gap.{now24, now25}
 use Rattle.rules.proofs.Edges.{up-to-all, gap-says, late-after, small-owed}
 use Rattle.rules.proofs.Turn.{said}
-use Rattle.rules.proofs.Closing.{rest-shown, registersIn, registers-in}
+use Rattle.rules.proofs.Closing.{rest-shown, registersIn, registers-in, answer-of}
 use Rattle.carries.proofs.Summary.{clocksLeft, debtOf, banksOf, deviceOf, summary}
 use Rattle.carries.proofs.Views.{kept-view, regs-view, written-view}
 use Rattle.carries.proofs.Gap.{due-next}
@@ -128,13 +128,10 @@ module _ (C : Chip) (S : Sound C) (p : Past) (t : ℕ) where
   parts :
       (w : Verdict) (q : Past) → Apart p → verdictOf C (frozen C p q w) t ≡ shownVerdict C p t → upTo (rest (verdictTo C p t) t) p ≡ q
       → endOf C (frozen C p q w) t ≡ answer C p t
-  unfolding endOf answer frozen
-  parts w q apart says keeps = λ i. record {
-    verdict = says i;
-    banks = (ap (banksAt C (banksOf C q)) at ∙ banks-at C q u ∙ ap (λ x. table (λ b. shownOf (status C b x u))) (sym keeps)) i;
-    registers = (registers-at C q ∙ ap (registersIn C) (sym keeps)) i;
-    owed = (ap (edges.owedAt C (debtOf (C .trefi) q)) at ∙ ap (λ x. edges.owedAt C (debtOf (C .trefi) x) u) (sym keeps) ∙ owed) i;
-  }
+  unfolding endOf frozen
+  parts w q apart says keeps =
+      answer-of C p t q keeps _ says _ (ap (banksAt C (banksOf C q)) at ∙ banks-at C q u) _ (registers-at C q) _
+      (ap (edges.owedAt C (debtOf (C .trefi) q)) at ∙ owed)
     where
       u : ℕ
       u = rest (verdictTo C p t) t
@@ -142,8 +139,11 @@ module _ (C : Chip) (S : Sound C) (p : Past) (t : ℕ) where
       at : restOf (verdictOf C (frozen C p q w) t) t ≡ rest (verdictTo C p t) t
       at = ap (λ v. restOf v t) says ∙ rest-shown (verdictTo C p t) (number p) t
 
-      owed : edges.owedAt C (debtOf (C .trefi) (upTo u p)) u ≡ owedAt (C .trefi) (upTo u p) u
-      owed = owed-in C (S .refi-least) (upTo u p) u (up-to-edge u p) (owed-small C (S .refi-least) p apart u (at-rest C p t (verdictTo C p t) refl))
+      kept : edges.owedAt C (debtOf (C .trefi) (upTo u p)) u ≡ owedAt (C .trefi) (upTo u p) u
+      kept = owed-in C (S .refi-least) (upTo u p) u (up-to-edge u p) (owed-small C (S .refi-least) p apart u (at-rest C p t (verdictTo C p t) refl))
+
+      owed : edges.owedAt C (debtOf (C .trefi) q) u ≡ owedAt (C .trefi) q u
+      owed = ap (λ x. edges.owedAt C (debtOf (C .trefi) x) u) (sym keeps) ∙ kept ∙ ap (λ x. owedAt (C .trefi) x u) keeps
 
   -- the edges after a clean past up to the end
   end-says : Apart p → edge p ≤ t → verdictTo C p (edge p) ≡ clean → verdictOf C (summary C p) t ≡ shownVerdict C p t

@@ -28,7 +28,7 @@ use Rattle.edges.specs.Floors.{under, settled}
 use Rattle.edges.specs.Ways.{floorNext, holdsNext}
 use Rattle.edges.specs.Seldom.{AllIdle, Rested, MayCome}
 use Rattle.edges.specs.Running.{Track, Rest, heldBy, rankOf}
-use Rattle.edges.specs.Folding.{Clear}
+use Rattle.edges.specs.Lane.{Clear}
 use Rattle.edges.proofs.Easy.{NoneDue, NotOwed, says-none}
 use Rattle.edges.proofs.Fine.{Idling, all-fine, ref-fine, zq-fine, mrs-fine, sre-fine, srx-fine, nop-fine, des-fine, low-fine}
 use Rattle.edges.proofs.Ways.{Sized}

@@ -3,13 +3,13 @@
 use Prim.Native.Nat.{ℕ, _+_, _≤_, _<_}
 use native.Mathlib.Omega.{arith}
 use native.Mathlib.Decide.{ℕ-discrete}
-use mathlib.Core.Bool.{Bool, true, false, cond}
+use mathlib.Core.Bool.{Bool, true, false, cond, _&&_, _||_, true≢false}
 use mathlib.Core.List.{List}
 use mathlib.Core.Logic.{_⊎_, inl, inr, ⊎-elim}
 use mathlib.Core.Path.{_≡_, refl, sym, ap, _∙_, subst}
-use lib.Dec.{eqb, ltb}
+use lib.Dec.{eqb, ltb, leb}
 use lib.ListN.{getD, set, length}
-use borrow.Author.Tests.{eqb-true, eq-eqb, ne-eqb, le-ltb, lt-ltb, ltb-true, ltb-false}
+use borrow.Author.Tests.{eqb-true, eq-eqb, ne-eqb, le-ltb, lt-ltb, ltb-true, ltb-false, leb-false}
 use Rattle.laws.proofs.Eight.{getD-table}
 use Rattle.chip.specs.declared.Chip.{Chip}
 use Rattle.running.specs.Marks.{needing}
@@ -17,20 +17,13 @@ use Rattle.running.specs.Next.{due}
 use Rattle.edges.specs.declared.Banks.{Banks}
 use Rattle.edges.specs.Views.{keptOf}
 use Rattle.edges.specs.Says.{duesOf}
+use Rattle.edges.specs.Clearing.{dueBy, Off}
 use Rattle.edges.proofs.Lists.{getD-set}
-
--- of a bank: the edge and number of its ACT, the start and number of its precharge
-abbrev pub dueBy : (most a n x m : ℕ) → ℕ
-dueBy most a n x m = cond (ltb m n) (a + most + 1) (cond (ltb (a + most) x) (a + most + 1) 0)
 
 pub due-at : (C : Chip) (B : Banks) (b : ℕ) → b < 8
     → getD (duesOf C B) b 0 ≡ dueBy (C .most) (getD (B .actat) b 0) (getD (B .actno) b 0) (getD (B .shutat) b 0) (getD (B .shutno) b 0)
 unfolding duesOf due keptOf needing
 due-at C B b l = getD-table (λ b. due C (keptOf C B b)) b 0 l
-
--- not after lo and before x
-abbrev pub Off : (lo x d : ℕ) → Type 0
-Off lo x d = (d ≤ lo) ⊎ (x ≤ d)
 
 pub off-later : (lo hi x d : ℕ) → lo ≤ hi → Off lo x d → Off hi x d
 off-later lo hi x d l h = ⊎-elim (λ u. inl (omega (arith, u))) (λ u. inr u) h
@@ -90,3 +83,41 @@ module _ (C : Chip) (B B′ : Banks) (i a n y m : ℕ)
           → Off hi x (dueBy (C .most) (cond w a (getD (B .actat) b 0)) (cond w n (getD (B .actno) b 0)) (cond w y (getD (B .shutat) b 0)) (cond w m (getD (B .shutno) b 0)))
       go true e = o
       go false e = off-later lo hi x _ l (subst (Off lo x) (due-at C B b z) (h b z))
+
+-- ── The sooner of two ───────────────────────────────────────────────────────────────────────
+
+-- the edge after a bank's last is not after its deadline
+pub due-off : (lo most a n y m : ℕ) → Off lo (a + most + 1) (dueBy most a n y m)
+due-off lo most a n y m = go (ltb m n) (ltb (a + most) y)
+  where
+    go : (u v : Bool) → Off lo (a + most + 1) (cond u (a + most + 1) (cond v (a + most + 1) 0))
+    go true v = inr (omega arith)
+    go false true = inr (omega arith)
+    go false false = inl (omega arith)
+
+-- the test of which is the sooner
+abbrev pub sooner : (lo x most a n y m : ℕ) → Bool
+sooner lo x most a n y m = (ltb m n || ltb (a + most) y) && (leb lo (a + most) && ltb (a + most) x)
+
+pub sooner-below : (lo x most a n y m : ℕ) → sooner lo x most a n y m ≡ true → a + most + 1 ≤ x
+sooner-below lo x most a n y m h = go (ltb m n || ltb (a + most) y) (leb lo (a + most)) (ltb (a + most) x) refl h
+  where
+    go : (u v w : Bool) → ltb (a + most) x ≡ w → u && (v && w) ≡ true → a + most + 1 ≤ x
+    go true true true e h = omega (arith, ltb-true (a + most) x e)
+    go true true false e h = absurd (true≢false (sym h))
+    go true false w e h = absurd (true≢false (sym h))
+    go false v w e h = absurd (true≢false (sym h))
+
+-- where it fails, the deadline is not after lo and before x
+pub later-off : (lo x most a n y m : ℕ) → sooner lo x most a n y m ≡ false → Off lo x (dueBy most a n y m)
+later-off lo x most a n y m h = go (ltb m n) (ltb (a + most) y) (leb lo (a + most)) (ltb (a + most) x) refl refl h
+  where
+    out : (v w : Bool) → leb lo (a + most) ≡ v → ltb (a + most) x ≡ w → v && w ≡ false → Off lo x (a + most + 1)
+    out true true e f h = absurd (true≢false h)
+    out true false e f h = inr (omega (arith, ltb-false (a + most) x f))
+    out false w e f h = inl (omega (arith, leb-false lo (a + most) e))
+
+    go : (u t v w : Bool) → leb lo (a + most) ≡ v → ltb (a + most) x ≡ w → (u || t) && (v && w) ≡ false → Off lo x (cond u (a + most + 1) (cond t (a + most + 1) 0))
+    go true t v w e f h = out v w e f h
+    go false true v w e f h = out v w e f h
+    go false false v w e f h = inl (omega arith)

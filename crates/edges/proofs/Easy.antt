@@ -20,7 +20,7 @@ use Rattle.running.specs.declared.Late.{Late}
 use Rattle.running.specs.declared.Pick.{Pick}
 use Rattle.running.specs.Late.{soonest, sooner, late24, why}
 use Rattle.running.specs.Said.{noVerdict}
-use Rattle.running.proofs.Easing.{soonest-none}
+use Rattle.running.proofs.Soonest.{soonest-none}
 use Rattle.edges.specs.declared.Banks.{Banks}
 use Rattle.edges.specs.declared.Debt.{Debt}
 use Rattle.edges.specs.declared.Rank.{Rank}

@@ -24,7 +24,8 @@ use Rattle.edges.specs.declared.Folded.{Folded}
 use Rattle.edges.specs.Step.{stepOf, foldOf}
 use Rattle.edges.specs.Floors.{noFloor, under, settled}
 use Rattle.edges.specs.Running.{Track, Rest, heldBy, rankOf, Quiet, Standing, Along, Quickly}
-use Rattle.edges.specs.Folding.{foldedFrom, Clear, Folding}
+use Rattle.edges.specs.Lane.{trackIn, restIn}
+use Rattle.edges.specs.Folding.{foldedFrom}
 
 -- ── No floor ────────────────────────────────────────────────────────────────────────────────
 
@@ -107,22 +108,6 @@ no-floor s h = λ i. record {
 }
 
 -- ── A rank taken apart ──────────────────────────────────────────────────────────────────────
-
-abbrev pub trackIn : Rank → Track
-trackIn s =
-    record {
-      edge = s .edge;
-      count = s .count;
-      banks = s .banks;
-      act = s .waits .act;
-      col = s .waits .col;
-      pre = s .waits .pre;
-      acts = s .acts;
-      floor = noFloor;
-    }
-
-abbrev pub restIn : Rank → Rest
-restIn s = record { first = s .first; level = s .level; debt = s .debt; holds = s .waits .holds; device = s .device }
 
 pub apart : (s : Rank) → Whole s → rankOf (restIn s) (trackIn s) ≡ s
 apart s h = no-floor s h

@@ -16,3 +16,8 @@ pub mod Resting
 pub mod Folding
 pub mod Turns
 pub mod Coming
+pub mod Lane
+pub mod Reaching
+pub mod Stamps
+pub mod Counts
+pub mod Clearing

@@ -6,7 +6,7 @@ use mathlib.Core.Path.{_≡_, refl, sym, ap, _∙_}
 use mathlib.Core.Bool.{cond}
 use mathlib.Core.List.{List, [], _∷_, _++_}
 use lib.Dec.{eqb}
-use lib.ListN.{getD, set, length}
+use lib.ListN.{getD, set, length, replicate}
 use native.Mathlib.Decide.{ℕ-discrete}
 use borrow.Author.Tests.{eq-eqb, ne-eqb}
 use Rattle.laws.specs.Eight.{table}
@@ -26,6 +26,11 @@ module _ {A : Type 0} where
   getD-set (x ∷ xs) zero v (suc b) d l = rw (ne-eqb 0 (suc b) (λ e. omega arith))
   getD-set (x ∷ xs) (suc i) v zero d l = rw (ne-eqb (suc i) 0 (λ e. omega arith))
   getD-set (x ∷ xs) (suc i) v (suc b) d l = getD-set xs i v b d (omega arith) ∙ ap (λ x. cond x v (getD xs b d)) (same-next i b)
+
+  -- eight of the same
+  pub replicate-table : (v : A) → replicate 8 v ≡ table (λ _. v)
+  unfolding table
+  replicate-table v = refl
 
   -- of two tables the first
   pub getD-low : (f g : ℕ → A) (b : ℕ) (d : A) → b < 8 → getD (table f ++ table g) b d ≡ f b

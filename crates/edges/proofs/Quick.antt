@@ -25,7 +25,8 @@ use Rattle.edges.specs.Ways.{raisedAt, shutFloor, columnFloor, colPre, c
 use Rattle.edges.specs.Step.{stepOf}
 use Rattle.edges.specs.Running.{Track, Rest, rankOf, Quiet, Standing, Quickly}
 use Rattle.edges.proofs.Lists.{getD-set}
-use Rattle.edges.proofs.Dues.{Off, dueBy, due-at, NoneSoon, same-soon, other-soon, open-off, closed-off, now-off, opened-off}
+use Rattle.edges.proofs.Dues.{due-at, NoneSoon, same-soon, other-soon, open-off, closed-off, now-off, opened-off}
+use Rattle.edges.specs.Clearing.{Off, dueBy}
 use Rattle.edges.proofs.Turning.{nop-turn, des-turn, pre-turn, act-turn, rd-turn, rd-auto-turn, wr-turn, wr-auto-turn}
 use Rattle.edges.proofs.Stands.{further, quick-more, last-edge}
 

@@ -25,7 +25,8 @@ use Rattle.edges.specs.Says.{duesOf}
 use Rattle.edges.specs.Step.{stepOf, foldOf}
 use Rattle.edges.specs.Running.{Track, Rest, rankOf, Quiet, Standing, Along, Quickly}
 use Rattle.edges.proofs.Lists.{getD-set}
-use Rattle.edges.proofs.Dues.{Off, dueBy, due-at, NoneSoon, off-later, same-soon, other-soon, open-off, closed-off, now-off, opened-off}
+use Rattle.edges.proofs.Dues.{due-at, NoneSoon, off-later, same-soon, other-soon, open-off, closed-off, now-off, opened-off}
+use Rattle.edges.specs.Clearing.{Off, dueBy}
 
 -- ── A list after a store ────────────────────────────────────────────────────────────────────
 

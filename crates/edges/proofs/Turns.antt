@@ -21,10 +21,10 @@ use Rattle.edges.specs.Step.{stepOf, foldOf}
 use Rattle.edges.specs.Floors.{settled}
 use Rattle.edges.specs.Ranges.{Ranged, Ready}
 use Rattle.edges.specs.Running.{Track, Rest, heldBy, rankOf, allWritten, Quiet, Standing, Along, Quickly}
-use Rattle.edges.specs.Folding.{foldedFrom, Clear, Folding}
+use Rattle.edges.specs.Lane.{Fit, Clear, Folding}
 use Rattle.edges.proofs.Stands.{whole-record, short-step, last-edge, one-more}
 use Rattle.edges.proofs.Ranging.{step-goes}
-use Rattle.edges.proofs.Folding.{Whole, trackIn, restIn, apart, along-none, along-also, along-one}
+use Rattle.edges.proofs.Folding.{along-none, along-also, along-one}
 
 lt-or-le : (a b : ℕ) → (a < b) ⊎ (b ≤ a)
 lt-or-le a b = go (ltb a b) refl
@@ -44,9 +44,9 @@ pub record Lengths (t : Track) : Type 0 where
   pub by : length (t .banks .shutno) ≡ 8
   pub ring : length (t .acts .at) ≡ 4
 
-module _ (C : Chip) (s : Rank) (bytes : List ℕ) where
+module _ (C : Chip) (s : Rank) (from : ℕ) (bytes : List ℕ) where
   -- ranges of the rank from those of the track, and back
-  pub ranged-in : {clear : ℕ} {real stale : Bool} {w : Asks} {d : Rest} {t : Track} {at : ℕ} → Folding C s bytes clear real stale w d t at → Ranged (rankOf d t)
+  pub ranged-in : {clear : ℕ} {real stale : Bool} {w : Asks} {d : Rest} {t : Track} {at : ℕ} → Folding C s from bytes clear real stale w d t at → Ranged (rankOf d t)
   unfolding settled
   ranged-in f = record {
     edge = f .base .edge;
@@ -85,42 +85,22 @@ module _ (C : Chip) (s : Rank) (bytes : List ℕ) where
   }
 
   -- the beginning
-  pub fold-start : (clear : ℕ) (real : Bool) (w : Asks) → Ready C s bytes → s .first .outcome ≡ 0 → Whole s → Clear C clear (restIn s) (trackIn s)
-      → (real ≡ true → (b : ℕ) → b < 8 → getD (s .banks .actno) b 0 ≤ s .count) → Asked C (regsOf (s .device)) w
-      → Folding C s bytes clear real false w (restIn s) (trackIn s) 0
-  unfolding settled
-  fold-start clear real w ready clean whole free acting asked = record {
-    along = along-none C bytes s 0 (rankOf (restIn s) (trackIn s)) (apart s whole);
-    base = record {
-      small = ready .small;
-      within = omega arith;
-      sixes = omega (arith, ready .sixes);
-      edge = ready .range .edge;
-      room = omega (arith, ready .room);
-      turn = ready .range .turn;
-      acted = ready .range .acted;
-      ring = ready .range .ring;
-      acting = λ z. absurd (omega arith);
-      due = λ b z. inr (omega arith);
-      soon = omega arith;
-      actsize = whole .act;
-      colsize = whole .col;
-      presize = whole .pre;
-      actedsize = whole .acted;
-      numsize = whole .num;
-      shutsize = whole .shut;
-      bysize = whole .by;
-      ringsize = whole .ring;
-    };
+  pub fold-start : (clear : ℕ) (real : Bool) (w : Asks) (d : Rest) (t : Track) → s ≡ rankOf d t → Fit C bytes from (d .debt) t → Clear C clear d t
+      → (real ≡ true → (b : ℕ) → b < 8 → getD (t .banks .actno) b 0 ≤ t .count) → d .first .outcome ≡ 0 → d .first .edge ≤ lastEdge
+      → Asked C (regsOf (d .device)) w → Folding C s from bytes clear real false w d t from
+  fold-start clear real w d t same fit free acting clean broke asked = record {
+    along = along-none C bytes s from (rankOf d t) (sym same);
+    later = omega arith;
+    base = fit .base;
     free = free;
     acting = acting;
     clean = clean;
-    broke = ready .range .broke;
+    broke = broke;
     asked = λ _. asked;
-    debt = ready .range .debt;
+    debt = fit .debt;
   }
 
-  module _ {clear : ℕ} {real stale : Bool} {w : Asks} {d : Rest} {t : Track} {at : ℕ} (f : Folding C s bytes clear real stale w d t at) where
+  module _ {clear : ℕ} {real stale : Bool} {w : Asks} {d : Rest} {t : Track} {at : ℕ} (f : Folding C s from bytes clear real stale w d t at) where
     -- where the quick way may go
     pub quick-stands : real ≡ true → Standing C clear bytes at t
     quick-stands y = record {
@@ -146,16 +126,17 @@ module _ (C : Chip) (s : Rank) (bytes : List ℕ) where
     }
 
     -- it did not
-    pub quick-still : (put dll : Bool) (v : Asks) (t′ : Track) (at′ : ℕ) → Quickly C v put dll 0 bytes t at t′ at′ → Folding C s bytes clear real stale w d t′ at′
+    pub quick-still : (put dll : Bool) (v : Asks) (t′ : Track) (at′ : ℕ) → Quickly C v put dll 0 bytes t at t′ at′ → Folding C s from bytes clear real stale w d t′ at′
     quick-still put dll v t′ at′ q =
         let e = q .still (omega arith) in
         rw (e .0, e .1) f
 
     -- it did
     pub quick-done : real ≡ true → d .level ≡ true → (v : Asks) → Asked C (regsOf (d .device)) v → (t′ : Track) (at′ : ℕ)
-        → Quickly C v (allWritten (d .device)) (writtenOf (d .device) .dll) clear bytes t at t′ at′ → Folding C s bytes clear real false v d t′ at′
+        → Quickly C v (allWritten (d .device)) (writtenOf (d .device) .dll) clear bytes t at t′ at′ → Folding C s from bytes clear real false v d t′ at′
     quick-done y high v asked t′ at′ q = record {
       along = along-also C bytes (f .along) (q .along d quiet);
+      later = omega (arith, f .later, q .later);
       base = record {
         small = st .small;
         within = st .within;
@@ -210,7 +191,7 @@ module _ (C : Chip) (s : Rank) (bytes : List ℕ) where
       pub fold-more :
           (d′ : Rest) (t′ : Track) (clear′ : ℕ) (stale′ : Bool) (v : Asks) (real′ : Bool) → stepOf C (rankOf d t) r ≡ rankOf d′ t′ → Lengths t′ → Clear C clear′ d′ t′
           → (real′ ≡ true → (b : ℕ) → b < 8 → getD (t′ .banks .actno) b 0 ≤ t′ .count) → d′ .first .outcome ≡ 0
-          → (stale′ ≡ false → Asked C (regsOf (d′ .device)) v) → Folding C s bytes clear′ real′ stale′ v d′ t′ (at + 6)
+          → (stale′ ≡ false → Asked C (regsOf (d′ .device)) v) → Folding C s from bytes clear′ real′ stale′ v d′ t′ (at + 6)
       unfolding settled
       fold-more d′ t′ clear′ stale′ v real′ step long free acting clean asked =
           let le = whole-record C 0 bytes at t (f .base) h r is in
@@ -218,6 +199,7 @@ module _ (C : Chip) (s : Rank) (bytes : List ℕ) where
           let n : t′ .count ≡ t .count + 1 = ap (λ (x : Rank). x .count) (sym step) ∙ goes .1 in
           record {
             along = along-also C bytes (f .along) (along-one C bytes (rankOf d t) (rankOf d′ t′) at r le is some step);
+            later = omega (arith, f .later);
             base = stand-by d′ t′ (at + 6) (f .base .small) le (omega (arith, f .base .sixes, le)) (omega (arith, f .base .room, f .base .sixes, le, n)) k long;
             free = free;
             acting = acting;

@@ -2,11 +2,14 @@ pub mod Views
 pub mod Asks
 pub mod Next
 pub mod Says
+pub mod Clearing
 pub mod Step
 pub mod Floors
 pub mod Ways
 pub mod Seldom
+pub mod Parts
 pub mod Running
 pub mod Ranges
+pub mod Lane
 pub mod Folding
 pub mod Ends

@@ -8,7 +8,6 @@ use Rattle.records.specs.declared.Record.{Record}
 use Rattle.chip.specs.declared.Chip.{Chip}
 use Rattle.chip.specs.declared.Regs.{Regs}
 use Rattle.running.specs.Said.{isClean, cleanAt}
-use Rattle.running.specs.Next.{regsNext}
 use Rattle.edges.specs.declared.Rank.{Rank}
 use Rattle.edges.specs.Views.{regsOf}
 use Rattle.edges.specs.Asks.{fourBack, waitsNext}

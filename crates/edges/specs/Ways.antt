@@ -94,7 +94,23 @@ shutAllFloor f x = record { act = max (f .act) x; rd = f .rd; wr = f .wr; pre = 
 abbrev pub heldTo : List ℕ → (x m : ℕ) → List ℕ
 heldTo h x m = max (getD h 0 0) x ∷ max (getD h 1 0) m ∷ max (getD h 2 0) x ∷ max (getD h 3 0) x ∷ []
 
--- what a command that concerns no single bank asks of every bank; a PRE is one of all banks
+-- the clocks that a command asks for which concerns no single bank; a PRE is one of all banks
+abbrev pub askedBy : Chip → Command → Record → ℕ
+askedBy C Ref r = C .trfc
+askedBy C Zq r = need18 C r
+askedBy C Mrs r = C .tmod
+askedBy C Srx r = C .txs
+askedBy C Pre r = C .trp
+askedBy C Sre r = 0
+askedBy C Nop r = 0
+askedBy C Des r = 0
+askedBy C Low r = 0
+askedBy C Bad r = 0
+askedBy C Act r = 0
+askedBy C Rd r = 0
+askedBy C Wr r = 0
+
+-- what it asks of every bank
 abbrev pub floorNext : Chip → Command → Record → (e : ℕ) → Floor → Floor
 floorNext C Ref r e f = raisedFloor f (e + C .trfc)
 floorNext C Zq r e f = raisedFloor f (e + need18 C r)

@@ -1,3 +1,2 @@
 pub mod Ranging
-pub mod Zeros
 pub mod Answers

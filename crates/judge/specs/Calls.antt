@@ -12,11 +12,12 @@ use Rattle.header.specs.Bytes.{parsedOf}
 use Rattle.answers.specs.declared.End.{End}
 use Rattle.records.specs.Record.{records, hasZero}
 use Rattle.chip.specs.Chip.{chipOf}
-use Rattle.running.specs.declared.Rank.{Rank}
 use Rattle.running.specs.Said.{noVerdict}
-use Rattle.running.specs.Step.{foldOf, soFar}
 use Rattle.running.specs.Ranges.{limit, lastEdge}
-use Rattle.running.specs.Ends.{freshRank, endOf, noEnd}
+use Rattle.running.specs.Ends.{noEnd}
+use Rattle.edges.specs.declared.Rank.{Rank}
+use Rattle.edges.specs.Step.{foldOf, soFar}
+use Rattle.edges.specs.Ends.{freshRank, startRank, endOf}
 use Rattle.judge.specs.declared.State.{State}
 use Rattle.judge.specs.declared.Opened.{Opened}
 use Rattle.judge.specs.declared.Taken.{Taken}
@@ -30,7 +31,7 @@ holding h n = record { header = h; rank = n }
 
 -- "At first all banks are idle and no wait runs"; "CKE is high before the first record"; "Refresh debt starts at 0"
 abbrev pub startOf : Header → State
-startOf h = holding h (freshRank true 8)
+startOf h = holding h (startRank (chipOf h))
 
 -- a refused opening hands out the state of zeros
 abbrev pub noHeader : Header

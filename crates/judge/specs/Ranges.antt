@@ -3,7 +3,7 @@
 use mathlib.Core.Bool.{Bool, _&&_}
 use lib.Dec.{leb}
 use Rattle.header.specs.Counts.{tREFI}
-use Rattle.running.specs.Ranges.{rankInRange}
+use Rattle.edges.specs.Ranges.{rankInRange}
 use Rattle.judge.specs.declared.State.{State}
 
 unfoldable pub inRange : State → Bool

@@ -3,15 +3,11 @@ use crate::Closed;
 use crate::Opened;
 use crate::State;
 use crate::Taken;
+use edges::Rank;
 use header::Header;
 use header::Parsed;
-use records::Record;
-use running::Rank;
 use units::Ps;
 ghost use mathlib.Core.Path.{_≡_};
-ghost use Prim.Native.Nat.{_+_, _%_, _≤_};
-ghost use lib.ListN.{length};
-ghost use Rattle.records.specs.Record.{records, recordAt, hasZero};
 ghost use Rattle.judge.specs.Calls as calls;
 ghost use Rattle.judge.specs.Ranges as ranges;
 
@@ -36,7 +32,7 @@ impl State {
         }
     }
 
-    // Checks 17, 5, 7, 6; then the records, as one.
+    // Checks 17, 5, 7, and 6 with the records, in one pass: a step of 0 leaves the rank as it was.
     pub fn section(self, bytes: &[u8]) -> Taken
         ensures { λ r. ⌜ r ≡ calls.sectionOf self (now (bytes .entry)) ⌝ }
     {
@@ -49,15 +45,11 @@ impl State {
         if State::LIMIT < self.rank.count as u64 + (bytes.len() / 6) as u64 {
             return refuse(7, self);
         }
-        if has_zero(bytes) {
+        let folded = rank::take(chip::chip_of(self.header), self.rank, bytes);
+        if folded.zero {
             return refuse(6, self);
         }
-        let n = rank::take(chip::chip_of(self.header), self.rank, bytes);
-        Taken {
-            refused: 0,
-            state: holding(self.header, n),
-            verdict: still::so_far(n),
-        }
+        taken(self.header, folded.rank)
     }
 
     // Checks 17, 8; then the verdict, the banks, the registers and the debt at the end edge.
@@ -92,7 +84,8 @@ fn holding(h: Header, n: Rank) -> State
 fn start(h: Header) -> State
     ensures { λ r. ⌜ r ≡ calls.startOf h ⌝ }
 {
-    holding(h, still::fresh(true, 8))
+    let interval = h.trefi().clocks;
+    holding(h, still::fresh(true, 9 * interval))
 }
 
 fn zeros() -> State
@@ -106,6 +99,16 @@ fn zeros() -> State
         period: Ps { ps: 0 },
     };
     holding(h, still::fresh(false, 0))
+}
+
+fn taken(h: Header, n: Rank) -> Taken
+    ensures { λ r. ⌜ r ≡ calls.take (calls.holding h n) ⌝ }
+{
+    Taken {
+        refused: 0,
+        state: holding(h, n),
+        verdict: still::so_far(n),
+    }
 }
 
 fn refuse(n: u64, s: State) -> Taken
@@ -123,34 +126,4 @@ fn not_closed(n: u64) -> Closed
 {
     let e = still::no_end();
     Closed { refused: n, end: e }
-}
-
-// Is some record's step 0?
-fn has_zero(bytes: &[u8]) -> bool
-    requires { ⌜ length (now bytes) % 6 ≡ 0 ⌝ }
-    ensures { λ r. ⌜ r ≡ hasZero (records (now (bytes .entry))) ⌝ }
-{
-    let mut at: usize = 0;
-    while at < bytes.len() {
-        let r = record_at(bytes, at);
-        if r.step == 0 {
-            return true;
-        }
-        at += 6;
-    }
-    false
-}
-
-fn record_at(bytes: &[u8], at: usize) -> Record
-    requires { ⌜ at + 6 ≤ length (now bytes) ⌝ }
-    ensures { λ r. ⌜ r ≡ recordAt (now (bytes .entry)) at ⌝ }
-{
-    records::decode(
-        bytes[at],
-        bytes[at + 1],
-        bytes[at + 2],
-        bytes[at + 3],
-        bytes[at + 4],
-        bytes[at + 5],
-    )
 }

@@ -3,8 +3,8 @@ mod calls;
 
 use answers::End;
 use answers::Verdict;
+use edges::Rank;
 use header::Header;
-use running::Rank;
 
 pub struct State {
     pub header: Header,

@@ -17,7 +17,6 @@ use Rattle.running.specs.declared.Shared.{Shared}
 use Rattle.running.specs.declared.Written.{Written}
 use Rattle.running.specs.declared.Mark.{Mark}
 use Rattle.running.specs.Marks.{needing}
-use Rattle.running.specs.Fine.{fineAct, fineRd, fineWr, finePre, fineRest}
 use Rattle.answers.specs.Answer.{orElse, lowest}
 use Rattle.running.specs.Breaks.{statusOf, wants, barredBy, barredAt, speaksOfAll, rule3, rule23, whenIs, spacings, joined}
 
@@ -53,18 +52,3 @@ joined-unique c two three spacing = one-answer (joined c two three spacing)
 
 pub needing-unique : (n : ℕ) (m : Mark) → Unique (λ (x : Mark). x ≡ needing n m)
 needing-unique n m = one-answer (needing n m)
-
-pub fine-act-unique : (C : Chip) (q e : ℕ) (k : Kept) (s : Shared) → Unique (λ (x : Bool). x ≡ fineAct C q e k s)
-fine-act-unique C q e k s = one-answer (fineAct C q e k s)
-
-pub fine-rd-unique : (q e : ℕ) (k : Kept) (s : Shared) → Unique (λ (x : Bool). x ≡ fineRd q e k s)
-fine-rd-unique q e k s = one-answer (fineRd q e k s)
-
-pub fine-wr-unique : (q e : ℕ) (k : Kept) (s : Shared) → Unique (λ (x : Bool). x ≡ fineWr q e k s)
-fine-wr-unique q e k s = one-answer (fineWr q e k s)
-
-pub fine-pre-unique : (C : Chip) (q a e : ℕ) (k : Kept) → Unique (λ (x : Bool). x ≡ finePre C q a e k)
-fine-pre-unique C q a e k = one-answer (finePre C q a e k)
-
-pub fine-rest-unique : (q : ℕ) → Unique (λ (x : Bool). x ≡ fineRest q)
-fine-rest-unique q = one-answer (fineRest q)

@@ -1,7 +1,6 @@
 // What a record breaks by what is kept: rules 1 to 23.
 mod bank;
 mod breaks;
-mod fine;
 mod spaced;
 mod spacing;
 
@@ -12,11 +11,6 @@ pub use breaks::joined;
 pub use breaks::or_else;
 pub use breaks::rule3;
 pub use breaks::speaks_of_all;
-pub use fine::fine_act;
-pub use fine::fine_pre;
-pub use fine::fine_rd;
-pub use fine::fine_rest;
-pub use fine::fine_wr;
 pub use spaced::needing;
 pub use spaced::since;
 pub use spacing::last_rules;

@@ -168,7 +168,7 @@ fn wide(x: u32) -> u64
     x as u64
 }
 
-pub(crate) fn as10(s: Read) -> Mark
+fn as10(s: Read) -> Mark
     ensures { λ x. ⌜ x ≡ marks.as10 s ⌝ }
 {
     Mark {
@@ -178,7 +178,7 @@ pub(crate) fn as10(s: Read) -> Mark
     }
 }
 
-pub(crate) fn as13(s: Read) -> Mark
+fn as13(s: Read) -> Mark
     ensures { λ x. ⌜ x ≡ marks.as13 s ⌝ }
 {
     Mark {
@@ -198,7 +198,7 @@ fn as19(s: Read) -> Mark
     }
 }
 
-pub(crate) fn as11(s: Wrote) -> Mark
+fn as11(s: Wrote) -> Mark
     ensures { λ x. ⌜ x ≡ marks.as11 s ⌝ }
 {
     Mark {
@@ -208,7 +208,7 @@ pub(crate) fn as11(s: Wrote) -> Mark
     }
 }
 
-pub(crate) fn as14(s: Wrote) -> Mark
+fn as14(s: Wrote) -> Mark
     ensures { λ x. ⌜ x ≡ marks.as14 s ⌝ }
 {
     Mark {

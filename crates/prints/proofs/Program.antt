@@ -16,7 +16,7 @@ use Rattle.header.specs.declared.Parsed.the-variants.{Taken, Refused}
 use Rattle.header.specs.Bytes.{headerRefusal, headerWord, headerOf, parsedOf}
 use Rattle.chip.specs.Chip.{chipOf}
 use Rattle.running.specs.Ranges.{lastEdge}
-use Rattle.running.proofs.Ranging as running
+use Rattle.edges.proofs.Ranging as rank
 use Rattle.judge.specs.declared.State.{State}
 use Rattle.judge.specs.declared.Opened.{Opened}
 use Rattle.judge.specs.Calls.{openedBy, openOf, sectionOf, closed, closeOf}
@@ -50,8 +50,8 @@ module _ (h : Header) (S : Sound (chipOf h)) where
   -- the last edge of a state that stands is within bounds
   near : (bs : List ℕ) (s : State) → Stands h bs s → s .rank .edge ≤ lastEdge
   near bs s a =
-      let t = running.tested (s .rank) (judge.tested s (a .range) .rank) in
-      omega (arith, t .count, t .range .edge)
+      let t = rank.ranged (s .rank) (judge.tested s (a .range) .rank) in
+      omega (arith, t .count, t .edge)
 
   -- closed at its last edge it has the verdict so far
   closes : (bs : List ℕ) (s : State) → Stands h bs s → answerLine 0 s ≡ verdictLine (verdictSoFar (chipOf h) (recording bs))

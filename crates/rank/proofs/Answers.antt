@@ -6,10 +6,11 @@ use mathlib.Core.Path.{_≡_}
 use Rattle.laws.proofs.Unique.{Unique, one-answer}
 use Rattle.answers.specs.declared.End.{End}
 use Rattle.chip.specs.declared.Chip.{Chip}
-use Rattle.running.specs.declared.Rank.{Rank}
-use Rattle.running.specs.Ends.{takenOf, endedOf}
+use Rattle.edges.specs.declared.Folded.{Folded}
+use Rattle.edges.specs.declared.Rank.{Rank}
+use Rattle.edges.specs.Ends.{takenOf, endedOf}
 
-pub take-unique : (C : Chip) (n : Rank) (bytes : List ℕ) → Unique (λ (r : Rank). r ≡ takenOf C n bytes)
+pub take-unique : (C : Chip) (n : Rank) (bytes : List ℕ) → Unique (λ (r : Folded). r ≡ takenOf C n bytes)
 take-unique C n bytes = one-answer (takenOf C n bytes)
 
 pub end-unique : (C : Chip) (n : Rank) (at : ℕ) → Unique (λ (r : End). r ≡ endedOf C n at)

@@ -1,21 +1,23 @@
 // A rank's end: the verdict, the banks, the registers and the debt at an edge.
-use crate::deadlines::late25;
-use crate::shared::awake;
-use crate::shared::whole;
+use crate::numbers::of_two;
+use crate::said::next24;
+use crate::said::next25;
+use crate::views::kept_of;
+use crate::views::regs_of;
+use crate::views::written_of;
 use answers::End;
 use answers::Shown;
 use answers::Verdict;
 use chip::Chip;
+use edges::Banks;
+use edges::Debt;
+use edges::Rank;
 use kept::since;
 use kept::status;
-use running::Debt;
 use running::Kept;
 use running::Late;
-use running::Rank;
 use says::clean_at;
-use says::late24;
 use says::sooner;
-use says::soonest;
 use says::verdict_at;
 use says::why;
 use still::in_range;
@@ -25,16 +27,15 @@ use still::registers_of;
 ghost use mathlib.Core.Bool.{cond};
 ghost use mathlib.Core.Path.{_≡_};
 ghost use lib.Dec.{ltb};
-ghost use lib.ListN.{getD};
-ghost use Prim.Native.Nat.{_+_, _≤_};
+ghost use Prim.Native.Nat.{_+_, _-_, _/_, _≤_};
 ghost use Rattle.answers.specs.Answer.{shownOf};
 ghost use Rattle.running.specs.Breaks.{statusOf};
-ghost use Rattle.running.specs.Deadlines as deadlines;
-ghost use Rattle.running.specs.Ends as ends;
+ghost use Rattle.running.specs.Ends.{restOf};
 ghost use Rattle.running.specs.Late as late;
-ghost use Rattle.running.specs.Marks.{empty};
-ghost use Rattle.running.specs.Ranges as ranges;
+ghost use Rattle.running.specs.Ranges.{Small, lastEdge, farEdge};
 ghost use Rattle.running.specs.Said as said;
+ghost use Rattle.edges.specs.Ends as ends;
+ghost use Rattle.edges.specs.Ranges.{Ranged};
 
 // The rank at the edge; zeros where a sum could wrap, or the edge is out of bounds.
 pub fn end(chip: Chip, s: Rank, at: u64) -> End
@@ -53,26 +54,28 @@ pub fn end(chip: Chip, s: Rank, at: u64) -> End
 }
 
 fn closed(chip: Chip, s: Rank, end: u64) -> End
-    requires { ⌜ ranges.Closable chip s end ⌝ }
+    requires { ⌜ Small chip ⌝ }
+    requires { ⌜ Ranged s ⌝ }
+    requires { ⌜ end ≤ lastEdge ⌝ }
     ensures { λ r. ⌜ r ≡ ends.endOf chip s end ⌝ }
 {
     let v = verdict_of(chip, s, end);
     let t = rest(v, end);
-    let ks = s.banks;
-    let banks = banks_at(ks, t);
-    let registers = registers_of(s.shared.regs, s.shared.written);
+    let banks = banks_at(chip, s.banks, t);
+    let registers = registers_of(regs_of(s.device), written_of(s.device));
     End {
         verdict: v,
         banks: banks,
         registers: registers,
-        owed: owed_now(chip, s.shared.debt, s.shared.now, t),
+        owed: owed_now(chip, s.debt, t),
     }
 }
 
 fn verdict_of(chip: Chip, s: Rank, end: u64) -> Verdict
-    requires { ⌜ ranges.Closable chip s end ⌝ }
+    requires { ⌜ Small chip ⌝ }
+    requires { ⌜ Ranged s ⌝ }
+    requires { ⌜ end ≤ lastEdge ⌝ }
     ensures { λ r. ⌜ r ≡ ends.verdictOf chip s end ⌝ }
-    ensures { λ r. ⌜ r .edge ≤ ranges.lastEdge + 1 ⌝ }
 {
     let first = s.first;
     if first.outcome != 0 {
@@ -83,34 +86,19 @@ fn verdict_of(chip: Chip, s: Rank, end: u64) -> Verdict
 
 // The deadline that passes first; at hi or later where none passes before hi.
 fn next_late(chip: Chip, s: Rank, hi: u64) -> Late
-    requires { ⌜ (chip .trefi ≤ 70000000) × (s .edge ≤ ranges.lastEdge) ⌝ }
-    ensures { λ x. ⌜ x ≡ deadlines.nextLate chip s hi ⌝ }
+    requires { ⌜ Small chip ⌝ }
+    requires { ⌜ Ranged s ⌝ }
+    ensures { λ x. ⌜ x ≡ ends.nextLate chip s hi ⌝ }
 {
-    let dues = s.dues;
-    let banks = s.banks;
-    let x24 = next24(chip.most, dues, banks, s.edge, hi);
-    let x25 = late25(
-        chip.trefi,
-        s.shared.debt,
-        s.shared.rests.refreshed.num,
-        s.edge,
-        hi,
-    );
+    let no = s.device.no;
+    let x24 = next24(chip, s.banks, s.edge, hi);
+    let x25 = next25(s.debt, no[0], hi);
     sooner(x24, x25)
 }
 
-fn next24(most: u32, dues: [u64; 8], banks: [Kept; 8], edge: u64, hi: u64) -> Late
-    ensures { λ x. ⌜ x ≡ late.late24 (late.soonest dues edge hi 8 .at) (getD banks (late.soonest dues edge hi 8 .bank) empty .acted .num) most ⌝ }
-{
-    let pick = soonest(dues, edge, hi);
-    let p = pick.bank as usize;
-    late24(pick.at, banks[p].acted.num, most)
-}
-
 fn told(x: Late, count: u32, end: u64) -> Verdict
-    requires { ⌜ end ≤ ranges.lastEdge ⌝ }
+    requires { ⌜ end ≤ lastEdge ⌝ }
     ensures { λ r. ⌜ r ≡ cond (ltb (x .at) (end + 1)) (said.verdictAt (x .at) 0 (late.why x)) (said.cleanAt count end) ⌝ }
-    ensures { λ r. ⌜ r .edge ≤ ranges.lastEdge + 1 ⌝ }
 {
     if x.at < end + 1 {
         return verdict_at(x.at, 0, why(x));
@@ -119,9 +107,7 @@ fn told(x: Late, count: u32, end: u64) -> Verdict
 }
 
 fn rest(v: Verdict, end: u64) -> u64
-    requires { ⌜ (v .edge ≤ ranges.lastEdge + 1) × (end ≤ ranges.lastEdge) ⌝ }
-    ensures { λ r. ⌜ r ≡ ends.restOf v end ⌝ }
-    ensures { λ r. ⌜ r ≤ ranges.lastEdge ⌝ }
+    ensures { λ r. ⌜ r ≡ restOf v end ⌝ }
 {
     if v.outcome == 0 {
         return end;
@@ -129,17 +115,27 @@ fn rest(v: Verdict, end: u64) -> u64
     since(v.edge, 1)
 }
 
-fn owed_now(chip: Chip, d: Debt, now: u64, t: u64) -> u64
-    requires { ⌜ ranges.Small chip ⌝ }
-    requires { ⌜ (d .phase ≤ ranges.lastEdge) × (d .owed ≤ ranges.lastEdge) × (t ≤ ranges.lastEdge) ⌝ }
-    ensures { λ r. ⌜ r ≡ ends.owedAt chip d now t ⌝ }
+// The debt + 8: 9 is owed where no clock is left.
+fn owed_now(chip: Chip, d: Debt, t: u64) -> u64
+    requires { ⌜ 1 ≤ chip .trefi ⌝ }
+    requires { ⌜ d .due ≤ farEdge ⌝ }
+    ensures { λ r. ⌜ r ≡ ends.owedAt chip d t ⌝ }
 {
-    let total = d.phase + awake(d.sleeps, since(t, now));
-    d.owed + whole(total, chip.trefi)
+    let left = since(d.due, of_two(d.sleeps, 0, t));
+    since(17, begun(left, chip.trefi))
 }
 
-fn banks_at(ks: [Kept; 8], t: u64) -> [Shown; 8]
-    ensures { λ r. ⌜ r ≡ ends.banksAt ks t ⌝ }
+// The intervals in so many clocks, the last of them whole or not.
+fn begun(left: u64, trefi: u32) -> u64
+    requires { ⌜ 1 ≤ trefi ⌝ }
+    requires { ⌜ left ≤ farEdge ⌝ }
+    ensures { λ r. ⌜ r ≡ (left + (trefi - 1)) / trefi ⌝ }
+{
+    (left + (trefi - 1) as u64) / trefi as u64
+}
+
+fn banks_at(chip: Chip, banks: Banks, t: u64) -> [Shown; 8]
+    ensures { λ r. ⌜ r ≡ ends.banksAt chip banks t ⌝ }
 {
     let mut out = [Shown {
         status: 0,
@@ -148,7 +144,7 @@ fn banks_at(ks: [Kept; 8], t: u64) -> [Shown; 8]
     }; 8];
     let mut i: usize = 0;
     while i < 8 {
-        out[i] = shown_at(ks[i], t);
+        out[i] = shown_at(kept_of(chip, banks, i), t);
         i += 1;
     }
     out

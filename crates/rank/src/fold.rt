@@ -1,193 +1,187 @@
-// A section's records, one after the other, into a state that stays in one place.
-use crate::bank::acted;
-use crate::bank::due;
-use crate::bank::kept_next;
-use crate::bank::read;
-use crate::bank::written;
-use crate::easy::asks_of;
-use crate::easy::clear_of;
-use crate::easy::free_of;
-use crate::easy::passed_all;
-use crate::easy::rank_if;
-use crate::easy::until;
-use crate::shared::after_rd;
-use crate::shared::after_wr;
-use crate::turn::turn;
-use after::after_act;
-use after::after_pre;
-use after::kept_shut;
-use after::shut_all;
+// A section's records, one after the other.
+use crate::counting::counted;
+use crate::moved::step;
+use crate::quick::record_at;
+use crate::settling::settled;
+use crate::smooth::smoothly;
 use chip::Chip;
-use kept::barred;
-use kept::fine_act;
-use kept::fine_pre;
-use kept::fine_rd;
-use kept::fine_rest;
-use kept::fine_wr;
-use kept::first_barred;
-use kept::speaks_of_all;
-use records::Command;
-use records::Record;
-use running::Kept;
-use running::Rank;
-use says::late24;
-use says::soonest;
+use edges::Acts;
+use edges::Banks;
+use edges::Device;
+use edges::Folded;
+use edges::Rank;
+use edges::Waits;
 ghost use mathlib.Core.Path.{_≡_};
-ghost use Prim.Native.Nat.{_+_, _≤_};
-ghost use lib.ListN.{length, getD};
-ghost use Rattle.laws.specs.Eight.{table};
-ghost use Rattle.records.specs.Record.{records, recordAt};
-ghost use Rattle.running.specs.Marks.{empty};
-ghost use Rattle.running.specs.Next as next;
-ghost use Rattle.running.specs.Step as step;
-ghost use Rattle.running.specs.Ranges.{Small, NearBanks, Ready};
+ghost use Rattle.edges.specs.Ranges.{Ready};
+ghost use Rattle.edges.specs.Folding as folding;
 
-// The frequent commands come first, each with what it changes alone: a function cannot be lent a struct, and the state is not copied.
-// w, free, clear: what they ask for, from where on and up to where nothing else can happen.
-pub(crate) fn fold(chip: Chip, s: Rank, bytes: &[u8]) -> Rank
-    requires { ⌜ Ready chip s (now bytes) ⌝ }
-    ensures { λ r. ⌜ r ≡ step.foldOf chip s (records (now (bytes .entry))) ⌝ }
+struct Laned {
+    at: usize,
+    rank: Rank,
+}
+
+// The lane from a rank on, and the rank that it comes to.
+fn run_on(chip: Chip, s: Rank, bytes: &[u8], from: usize) -> Laned
+    requires { ⌜ folding.Reached chip (now bytes) s from s from ⌝ }
+    ensures { λ r. ⌜ folding.Reached chip (now (bytes .entry)) s from (r .rank) (r .at) ⌝ }
 {
-    let mut n = s;
-    let mut t = s.shared;
-    let mut w = asks_of(chip, t.regs);
-    let mut free = free_of(chip, t);
-    let dues = s.dues;
-    let mut clear = clear_of(chip.trefi, s.first.outcome, dues, s.edge, t.debt);
-    let mut at: usize = 0;
+    let first = s.first;
+    let banks = s.banks;
+    let waits = s.waits;
+    let acts = s.acts;
+    let device = s.device;
+    let mut actat = banks.actat;
+    let mut actno = banks.actno;
+    let mut actneed = banks.actneed;
+    let mut row = banks.row;
+    let mut colat = banks.colat;
+    let mut colno = banks.colno;
+    let mut colpre = banks.colpre;
+    let mut colturn = banks.colturn;
+    let mut colout = banks.colout;
+    let mut shutat = banks.shutat;
+    let mut shutno = banks.shutno;
+    let mut act = waits.act;
+    let mut col = waits.col;
+    let mut pre = waits.pre;
+    let mut holds = waits.holds;
+    let mut ringat = acts.at;
+    let mut ringno = acts.no;
+    let mut devat = device.at;
+    let mut devno = device.no;
+    let mut devneed = device.need;
+    let mut codes = device.codes;
+    let mut written = device.written;
+    let turn = acts.turn as usize;
+    let debt = s.debt;
+    let ran = smoothly(
+        &mut actat,
+        &mut actno,
+        &mut actneed,
+        &mut row,
+        &mut colat,
+        &mut colno,
+        &mut colpre,
+        &mut colturn,
+        &mut colout,
+        &mut shutat,
+        &mut shutno,
+        &mut act,
+        &mut col,
+        &mut pre,
+        &mut holds,
+        &mut ringat,
+        &mut ringno,
+        &mut devat,
+        &mut devno,
+        &mut devneed,
+        &mut codes,
+        &mut written,
+        chip,
+        debt,
+        s.level,
+        s.edge,
+        s.count,
+        turn,
+        bytes,
+        from,
+    );
+    let banks1 = Banks {
+        actat: actat,
+        actno: actno,
+        actneed: actneed,
+        row: row,
+        colat: colat,
+        colno: colno,
+        colpre: colpre,
+        colturn: colturn,
+        colout: colout,
+        shutat: shutat,
+        shutno: shutno,
+    };
+    let waits1 = Waits {
+        act: act,
+        col: col,
+        pre: pre,
+        holds: holds,
+    };
+    let acts1 = Acts {
+        at: ringat,
+        no: ringno,
+        turn: ran.turn as u64,
+    };
+    let device1 = Device {
+        at: devat,
+        no: devno,
+        need: devneed,
+        codes: codes,
+        written: written,
+    };
+    let owed = ran.debt;
+    let floor = ran.floor;
+    let n = Rank {
+        edge: ran.edge,
+        count: ran.count,
+        first: first,
+        level: ran.level,
+        debt: owed,
+        banks: banks1,
+        waits: waits1,
+        acts: acts1,
+        device: device1,
+    };
+    Laned {
+        at: ran.at,
+        rank: settled(n, floor),
+    }
+}
+
+// n: the rank before the records from `from` on, not broken.
+fn go_on(chip: Chip, s: Rank, n: Rank, bytes: &[u8], from: usize) -> Folded
+    requires { ⌜ folding.Reached chip (now bytes) s 0 n from ⌝ }
+    ensures { λ r. ⌜ r ≡ folding.foldedFrom chip s s (now (bytes .entry)) 0 ⌝ }
+{
+    let mut m = n;
+    let mut at = from;
     while at < bytes.len() {
         let r = record_at(bytes, at);
+        if r.step == 0 {
+            return Folded {
+                zero: true,
+                rank: s,
+            };
+        }
+        m = step(chip, m, r);
         at += 6;
-        let edge = n.edge;
-        let e = edge + r.step;
-        let no = n.count + 1;
-        n.edge = e;
-        n.count = no;
-        let b = (r.bank % 8) as usize;
-        let k = n.banks[b];
-        let c = records::command_of(t.level, r);
-        let p = passed_all(r, e, t);
-        let q = rank_if(e, clear, free, c);
-        if fine_rd(q, e, k, t) {
-            let x = read(chip, w, r, e, no, t.regs, k);
-            t = after_rd(chip, w, r, e, no, k.acted.at, p);
-            n.banks[b] = x;
-            let d = due(chip, x);
-            n.dues[b] = d;
-            clear = until(e, d, clear);
-            continue;
+        let broken = m.first.outcome;
+        if broken != 0 {
+            return counted(s, m, bytes, at);
         }
-        if fine_wr(q, e, k, t) {
-            let x = written(chip, w, r, e, no, t.regs, k);
-            t = after_wr(chip, w, r, e, no, k.acted.at, p);
-            n.banks[b] = x;
-            let d = due(chip, x);
-            n.dues[b] = d;
-            clear = until(e, d, clear);
-            continue;
-        }
-        if fine_pre(chip, q, r.a / 1024 % 2, e, k) {
-            let x = kept_shut(chip, e, no, k);
-            t = after_pre(chip, r, e, no, k.acted.at, p);
-            n.banks[b] = x;
-            let d = due(chip, x);
-            n.dues[b] = d;
-            clear = until(e, d, clear);
-            continue;
-        }
-        if fine_act(chip, q, e, k, t) {
-            let x = acted(chip, w, r, e, no, t.regs, k);
-            t = after_act(chip, r, e, no, k.acted.at, p);
-            n.banks[b] = x;
-            let d = due(chip, x);
-            n.dues[b] = d;
-            clear = until(e, d, clear);
-            continue;
-        }
-        if fine_rest(q) {
-            let x = k;
-            t = p;
-            n.banks[b] = x;
-            let d = due(chip, x);
-            n.dues[b] = d;
-            clear = until(e, d, clear);
-            continue;
-        }
-        let first = n.first;
-        if first.outcome != 0 {
-            continue;
-        }
-        let dues = n.dues;
-        let pick = soonest(dues, edge, e + 1);
-        let late = pick.bank as usize;
-        let x24 = late24(pick.at, n.banks[late].acted.num, chip.most);
-        let said = if speaks_of_all(c, r) {
-            let ks = n.banks;
-            turn(chip, c, r, e, no, edge, k, first_barred(c, ks, e), x24, t)
-        } else {
-            turn(chip, c, r, e, no, edge, k, barred(c, k, e), x24, t)
-        };
-        let v = said.verdict;
-        if v.outcome != 0 {
-            n.first = v;
-            clear = 0;
-            continue;
-        }
-        t = said.shared;
-        w = asks_of(chip, t.regs);
-        free = free_of(chip, t);
-        if pre_all(c, r) {
-            let ks = n.banks;
-            let shut = shut_all(chip, e, no, ks);
-            let ds = dues_of(chip, shut);
-            n.banks = shut;
-            n.dues = ds;
-            clear = clear_of(chip.trefi, first.outcome, ds, e, t.debt);
-            continue;
-        }
-        let x = kept_next(chip, c, r, e, no, t.regs, k);
-        n.banks[b] = x;
-        n.dues[b] = due(chip, x);
-        let ds = n.dues;
-        clear = clear_of(chip.trefi, first.outcome, ds, e, t.debt);
+        let l = run_on(chip, m, bytes, at);
+        m = l.rank;
+        at = l.at;
     }
-    n.shared = t;
-    n
+    Folded {
+        zero: false,
+        rank: m,
+    }
 }
 
-fn pre_all(c: Command, r: Record) -> bool
-    ensures { λ x. ⌜ x ≡ next.preAll c r ⌝ }
+pub(crate) fn fold(chip: Chip, s: Rank, bytes: &[u8]) -> Folded
+    requires { ⌜ Ready chip s (now bytes) ⌝ }
+    ensures { λ r. ⌜ r ≡ folding.foldedFrom chip s s (now (bytes .entry)) 0 ⌝ }
 {
-    (records::rank_of(c) == 2) & (r.a / 1024 % 2 == 1)
-}
-
-pub(crate) fn record_at(bytes: &[u8], at: usize) -> Record
-    requires { ⌜ at + 6 ≤ length (now bytes) ⌝ }
-    ensures { λ r. ⌜ r ≡ recordAt (now (bytes .entry)) at ⌝ }
-{
-    records::decode(
-        bytes[at],
-        bytes[at + 1],
-        bytes[at + 2],
-        bytes[at + 3],
-        bytes[at + 4],
-        bytes[at + 5],
-    )
-}
-
-fn dues_of(chip: Chip, ks: [Kept; 8]) -> [u64; 8]
-    requires { ⌜ Small chip ⌝ }
-    requires { ⌜ NearBanks ks ⌝ }
-    ensures { λ x. ⌜ x ≡ table (λ b. next.due chip (getD ks b empty)) ⌝ }
-{
-    [
-        due(chip, ks[0]),
-        due(chip, ks[1]),
-        due(chip, ks[2]),
-        due(chip, ks[3]),
-        due(chip, ks[4]),
-        due(chip, ks[5]),
-        due(chip, ks[6]),
-        due(chip, ks[7]),
-    ]
+    let broken = s.first.outcome;
+    if broken != 0 {
+        return counted(s, s, bytes, 0);
+    }
+    let l = run_on(chip, s, bytes, 0);
+    let m = l.rank;
+    if bytes.len() <= l.at {
+        return Folded {
+            zero: false,
+            rank: m,
+        };
+    }
+    go_on(chip, s, m, bytes, l.at)
 }

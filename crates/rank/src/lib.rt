@@ -1,14 +1,29 @@
-// One rank of the running judge: the loop over a section's records, and its end. What adds clocks to an edge stays in here,
-// since it asks ranges of its callers; `take` and `end` look at the ranges themselves, once a section, and ask nothing.
-mod bank;
+// One rank of the running judge: the loop over a section's records, and its end.
+mod asked;
+mod asking;
+mod banks;
+mod changes;
+mod clearing;
+mod clocks;
 mod closing;
-mod deadlines;
-mod easy;
+mod coming;
+mod counting;
+mod device;
 mod fold;
-mod needs;
-mod shared;
+mod latest;
+mod moved;
+mod numbers;
+mod owing;
+mod placed;
+mod quick;
+mod said;
+mod seldom;
+mod settling;
+mod smooth;
 mod taking;
-mod turn;
+mod views;
+mod waiting;
+mod ways;
 
 pub use closing::end;
 pub use taking::take;

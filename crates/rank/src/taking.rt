@@ -1,27 +1,40 @@
 // A section's records.
 use crate::fold::fold;
 use chip::Chip;
-use running::Rank;
+use edges::Folded;
+use edges::Rank;
 use still::in_range;
 use still::is_small;
 ghost use mathlib.Core.Path.{_≡_};
-ghost use Rattle.running.specs.Ends as ends;
+ghost use Rattle.edges.specs.Ends as ends;
 
-// The rank after the records; as it was, where a sum could wrap.
-pub fn take(chip: Chip, s: Rank, bytes: &[u8]) -> Rank
+// The rank after the records; as it was, where a step is 0 or a sum could wrap.
+pub fn take(chip: Chip, s: Rank, bytes: &[u8]) -> Folded
     ensures { λ r. ⌜ r ≡ ends.takenOf chip s (now (bytes .entry)) ⌝ }
 {
     if bytes.len() % 6 != 0 {
-        return s;
+        return Folded {
+            zero: false,
+            rank: s,
+        };
     }
     if 1048576 < s.count as u64 + (bytes.len() / 6) as u64 {
-        return s;
+        return Folded {
+            zero: false,
+            rank: s,
+        };
     }
     if !in_range(s) {
-        return s;
+        return Folded {
+            zero: false,
+            rank: s,
+        };
     }
     if !is_small(chip) {
-        return s;
+        return Folded {
+            zero: false,
+            rank: s,
+        };
     }
     fold(chip, s, bytes)
 }

@@ -20,7 +20,7 @@ use Rattle.running.specs.declared.Late.{Late}
 use Rattle.running.specs.declared.Pick.{Pick}
 use Rattle.running.specs.Next.{due}
 use Rattle.running.specs.Late.{better, soonest, why, sooner}
-use Rattle.running.specs.Deadlines.{next24, next25, nextLate, owing}
+use Rattle.running.specs.Deadlines.{next24, next25, owing}
 use Rattle.rules.specs.Past.{Past, edge, number, is, latest, upTo}
 use Rattle.answers.specs.Answer.{orElse, lowest}
 use Rattle.rules.specs.Banks.{status}
@@ -198,8 +198,3 @@ module _ (C : Chip) (p : Past) where
           none = λ t a b c. owing-none (t - edge p) _ (omega (arith, far));
           hit = λ m. (omega (arith, far), owing-hit (edge p + ((17 - o) * T - f) - edge p) _ (omega (arith, far)));
         }
-
-    -- both, by number
-    pub due-next : (hi : ℕ) → Due (λ t. orElse (now24 t) (now25 t)) (edge p) hi (nextLate C (summary C p) hi)
-    unfolding nextLate
-    due-next hi = due-both now24 now25 (edge p) hi (next24 C (summary C p) hi) (next25 C (summary C p) hi) (due24 hi) (due25 hi)

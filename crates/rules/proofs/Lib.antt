@@ -20,6 +20,5 @@ pub mod Sense
 pub mod Gap
 pub mod Edges
 pub mod Turn
-pub mod Whole
 pub mod Closing
 pub mod Cutting

@@ -1,10 +1,5 @@
 pub mod Both
-pub mod Finding
 pub mod Sections
 pub mod Ranging
-pub mod Folds
 pub mod Asking
-pub mod Easing
-pub mod Running
-pub mod Turning
-pub mod Ends
+pub mod Soonest

@@ -1,8 +1,7 @@
 -- Rules 24 and 25 from what is kept, over the edges after the latest record.
 -- Assumes nothing.
-use Prim.Native.Nat.{ℕ, _-_, _*_, _≤_}
+use Prim.Native.Nat.{ℕ}
 use mathlib.Core.Bool.{cond}
-use mathlib.Core.Path.{_≡_}
 use lib.Dec.{leb}
 use lib.ListN.{getD}
 use Rattle.answers.specs.declared.Break.{Break}
@@ -10,13 +9,8 @@ use Rattle.answers.specs.declared.Break.the-variants.{Fine, Broken}
 use Rattle.chip.specs.declared.Chip.{Chip}
 use Rattle.running.specs.Marks.{empty}
 use Rattle.running.specs.declared.Late.{Late}
-use Rattle.running.specs.Late.{sooner, late24, late25, soonest}
+use Rattle.running.specs.Late.{late24, late25, soonest}
 use Rattle.running.specs.declared.Rank.{Rank}
-
--- the edges of the intervals that are missing to a debt of 9
-pub record Missing (trefi owed x : ℕ) : Type 0 where
-  pub is : x ≡ (17 - owed) * trefi
-  pub small : x ≤ 1190000000
 
 -- rule 24 after lo and before hi; at hi if there is none
 unfoldable pub next24 : Chip → Rank → (hi : ℕ) → Late
@@ -26,10 +20,6 @@ next24 C s hi =
 -- rule 25 after the latest record, where at most 16 are owed; at hi where the part sleeps
 unfoldable pub next25 : Chip → Rank → (hi : ℕ) → Late
 next25 C s hi = late25 (C .trefi) (s .shared .debt) (s .shared .rests .refreshed .num) (s .edge) hi
-
--- the first deadline that passes before hi
-unfoldable pub nextLate : Chip → Rank → (hi : ℕ) → Late
-nextLate C s hi = sooner (next24 C s hi) (next25 C s hi)
 
 -- rule 25 where so much is owed
 abbrev pub owing : (owed partner : ℕ) → Break

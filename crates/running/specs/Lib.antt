@@ -1,12 +1,10 @@
 pub mod Marks
 pub mod Breaks
 pub mod Waits
-pub mod Fine
 pub mod Next
 pub mod Late
 pub mod Said
 pub mod Deadlines
-pub mod Step
 pub mod Ranges
 pub mod Easy
 pub mod Ends

@@ -115,9 +115,3 @@ pub struct Asks {
     pub long19: u32,
     pub short19: u32,
 }
-
-// What is said of a record, and what all banks share after it.
-pub struct Turn {
-    pub verdict: Verdict,
-    pub shared: Shared,
-}

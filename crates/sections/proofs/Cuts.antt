@@ -16,7 +16,7 @@ use Rattle.chip.specs.Chip.{chipOf}
 use Rattle.judge.specs.declared.State.{State}
 use Rattle.judge.specs.Calls.{holding, openOf, sectionOf}
 use Rattle.rules.proofs.Facts.{Sound}
-use Rattle.rules.proofs.Whole.{carried}
+use Rattle.carries.proofs.Whole.{carried}
 use Rattle.sections.proofs.Openings.{taken-sound}
 use Rattle.rules.specs.Past.{recording}
 use Rattle.rules.proofs.Cutting.{records-append, zero-append}

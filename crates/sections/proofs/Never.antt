@@ -1,13 +1,13 @@
 -- 17 is never given for a state that opening or a section returned: such a state is in range.
 -- Assumes nothing.
-use Prim.Native.Nat.{ℕ, zero, suc, _+_, _*_, _/_, _%_, _≤_, _<_}
+use Prim.Native.Nat.{ℕ, _+_, _/_, _%_, _≤_}
 use native.Mathlib.Omega.{arith}
 use mathlib.Core.Path.{_≡_, refl, ap, _∙_}
 use mathlib.Core.Bool.{Bool, true, false, cond}
 use mathlib.Core.List.{List, [], _∷_}
 use lib.Dec.{eqb, ltb}
-use lib.ListN.{length, getD, getD-replicate}
-use borrow.Author.Tests.{eqb-true, ltb-false, le-leb, le-ltb}
+use lib.ListN.{length, getD-replicate}
+use borrow.Author.Tests.{eqb-true, ltb-false, le-leb}
 use Rattle.units.proofs.Rounding.{down-zero}
 use Rattle.header.specs.declared.Parsed.{Parsed}
 use Rattle.header.specs.declared.Parsed.the-variants.{Taken, Refused}
@@ -17,43 +17,27 @@ use Rattle.records.specs.declared.Record.{Record}
 use Rattle.records.specs.Record.{fieldsOf, records, hasZero}
 use Rattle.chip.specs.declared.Chip.{Chip}
 use Rattle.chip.specs.Chip.{chipOf}
-use Rattle.running.specs.declared.Kept.{Kept}
-use Rattle.running.specs.Marks.{empty}
 use Rattle.judge.specs.declared.Opened.{Opened}
 use Rattle.judge.specs.declared.State.{State}
-use Rattle.running.specs.declared.Rank.{Rank}
-use Rattle.running.specs.Step.{stepOf, foldOf}
-use Rattle.running.specs.Ranges.{limit, lastEdge, banksOk, rankInRange, Small, Ranged}
-use Rattle.running.specs.Ends.{freshRank, freshShared}
+use Rattle.running.specs.Ranges.{limit, Small}
+use Rattle.edges.specs.declared.Rank.{Rank}
+use Rattle.edges.specs.Step.{stepOf, foldOf}
+use Rattle.edges.specs.Ranges.{Ranged}
+use Rattle.edges.specs.Ends.{freshBanks, freshActs, freshRank}
 use Rattle.judge.specs.Ranges.{inRange}
 use Rattle.judge.specs.Calls.{holding, startOf, openedBy, openOf, refuse, take, sectionOf}
-use Rattle.running.proofs.Ranging.{Tested, tested, small, step-goes}
+use Rattle.header.proofs.Bounds.{bounds}
+use Rattle.running.proofs.Ranging.{small}
+use Rattle.edges.proofs.Ranging as rank
 use Rattle.judge.proofs.Ranging as state
 use Rattle.sections.proofs.Openings.{opened-header, opened-state, taken-sound}
 use Rattle.rules.proofs.Cutting.{length-records}
 
 -- ── From the facts to the test ──────────────────────────────────────────────────────────────
 
-banks-ok : (ks : List Kept) (n : ℕ) → ((b : ℕ) → b < n → getD ks b empty .acted .at ≤ lastEdge) → banksOk ks n ≡ true
-unfolding banksOk
-banks-ok ks zero h = refl
-banks-ok ks (suc n) h = rw (banks-ok ks n (λ b l. h b (omega arith)), le-leb (getD ks n empty .acted .at) lastEdge (h n (omega arith)))
-
-rank-in-range : (n : Rank) → Tested n → rankInRange n ≡ true
-unfolding rankInRange
-rank-in-range n t =
-    rw (
-      le-ltb limit (n .count) (t .count),
-      le-leb (n .edge) (n .count * 16777216) (t .range .edge),
-      le-leb (n .shared .debt .phase) lastEdge (t .range .phase),
-      le-leb (n .shared .debt .owed) lastEdge (t .range .owed),
-      le-leb (n .first .edge) lastEdge (t .range .broke),
-      banks-ok (n .banks) 8 (t .range .banks),
-    )
-
-in-range : (s : State) → 1 ≤ tREFI (s .header) .clocks → Tested (s .rank) → inRange s ≡ true
+in-range : (s : State) → 1 ≤ tREFI (s .header) .clocks → Ranged (s .rank) → inRange s ≡ true
 unfolding inRange
-in-range s some t = rw (le-leb 1 (tREFI (s .header) .clocks) some, rank-in-range (s .rank) t)
+in-range s some r = rw (le-leb 1 (tREFI (s .header) .clocks) some, rank.in-range (s .rank) r)
 
 -- ── Records ─────────────────────────────────────────────────────────────────────────────────
 
@@ -81,27 +65,26 @@ module _ (C : Chip) (small : Small C) where
       → Ranged (foldOf C n rs) × (foldOf C n rs .count ≡ n .count + length rs)
   fold-kept [] n range room sh = (range, omega arith)
   fold-kept (r ∷ rs) n range room sh =
-      let k = step-goes C small n r range (omega arith) (sh .0) in
+      let k = rank.step-goes C small n r range (omega arith) (sh .0) in
       let w = fold-kept rs (stepOf C n r) (k .0) (omega (arith, k .1)) (sh .1) in
       (w .0, omega (arith, k .1, w .1))
 
 -- ── Opening and a section ───────────────────────────────────────────────────────────────────
 
 pub open-in-range : (bytes : List ℕ) → openOf bytes .refused ≡ 0 → inRange (openOf bytes .state) ≡ true
-unfolding freshRank freshShared chipOf
+unfolding freshRank freshBanks freshActs chipOf
 open-in-range bytes z =
     let w = opened-header bytes z in
     let h = w .0 in
     ap (λ (o : Opened). inRange (o .state)) (opened-state bytes h (w .1))
     ∙ in-range (startOf h) (taken-sound bytes h (w .1) .refi-least) (record {
+      edge = omega arith;
       count = omega arith;
-      range = record {
-        edge = omega arith;
-        phase = omega arith;
-        owed = omega arith;
-        broke = omega arith;
-        banks = λ b l. rw (getD-replicate 8 b empty empty l) (omega arith);
-      };
+      debt = omega (arith, bounds h .refi);
+      turn = omega arith;
+      broke = omega arith;
+      acted = λ b l. rw (getD-replicate {A = ℕ} 8 b 0 0 l) (omega arith);
+      ring = λ i l. rw (getD-replicate {A = ℕ} 4 i 0 0 l) (omega arith);
     })
 
 pub section-in-range : (s : State) (bs : List ℕ) → inRange s ≡ true → inRange (sectionOf s bs .state) ≡ true
@@ -114,9 +97,9 @@ section-in-range s bs h = rw h (go (eqb (length bs % 6) 0) refl (ltb limit (s .r
     taken : length bs % 6 ≡ 0 → s .rank .count + length bs / 6 ≤ limit → inRange (holding (s .header) after) ≡ true
     taken sixes room =
         let t = state.tested s h in
-        let n = tested (s .rank) (t .rank) in
-        let w = fold-kept (chipOf (s .header)) (small (s .header) (t .some)) (records bs) (s .rank) (n .range) (omega (arith, length-records bs sixes)) (short bs) in
-        in-range (holding (s .header) after) (t .some) (record { count = omega (arith, w .1, length-records bs sixes); range = w .0 })
+        let w = fold-kept (chipOf (s .header)) (small (s .header) (t .some)) (records bs) (s .rank) (rank.ranged (s .rank) (t .rank))
+        (omega (arith, length-records bs sixes)) (short bs) in
+        in-range (holding (s .header) after) (t .some) (w .0)
 
     go :
         (x : Bool) → eqb (length bs % 6) 0 ≡ x → (y : Bool) → ltb limit (s .rank .count + length bs / 6) ≡ y → (z : Bool)

@@ -3,7 +3,7 @@
 use Prim.Native.Nat.{ℕ, _+_, _/_, _%_}
 use native.Mathlib.Omega.{arith}
 use native.Mathlib.Decide.{ℕ-discrete}
-use mathlib.Core.Path.{_≡_, refl, sym, ap, _∙_}
+use mathlib.Core.Path.{_≡_, refl, sym, ap, _∙_, subst}
 use mathlib.Core.Bool.{Bool, true, false, cond, _||_}
 use mathlib.Core.List.{List, [], _++_}
 use lib.Dec.{eqb, ltb}
@@ -12,19 +12,21 @@ use borrow.Author.Tests.{eqb-true, ltb-false, eq-eqb, ne-eqb, le-ltb}
 use Rattle.header.specs.declared.Header.{Header}
 use Rattle.records.specs.Record.{records, hasZero}
 use Rattle.chip.specs.Chip.{chipOf}
-use Rattle.running.specs.declared.Rank.{Rank}
+use Rattle.edges.specs.declared.Rank.{Rank}
 use Rattle.judge.specs.declared.State.{State}
 use Rattle.judge.specs.declared.Taken.{Taken as Answer}
-use Rattle.running.specs.Step.{foldOf, soFar}
 use Rattle.running.specs.Ranges.{limit, lastEdge}
-use Rattle.running.specs.Ends.{endOf}
+use Rattle.edges.specs.Step.{foldOf, soFar}
+use Rattle.edges.specs.Ends.{endOf}
 use Rattle.judge.specs.Ranges.{inRange}
 use Rattle.judge.specs.Calls.{holding, refuse, take, sectionOf, closed, notClosed, closeOf}
 use Rattle.rules.specs.Past.{edge, recording}
 use Rattle.rules.specs.Verdict.{verdictSoFar, Apart, answer}
 use Rattle.rules.proofs.Facts.{Sound}
-use Rattle.rules.proofs.Whole.{frozen, carriedBy, carried, fold-carried, so-far-carried}
-use Rattle.rules.proofs.Closing.{end-carried}
+use Rattle.carries.proofs.Whole.{frozen, carriedBy, carried, fold-carried, so-far-carried}
+use Rattle.carries.specs.Waited.{standing, Waited}
+use Rattle.carries.proofs.Closing.{end-carried}
+use Rattle.carries.proofs.Waiting.{waited-carried}
 use Rattle.rules.proofs.Cutting.{length-records, steps, number-all, recording-append}
 use Rattle.sections.specs.Sections.{refusal, Fits}
 
@@ -86,6 +88,9 @@ module _ (h : Header) (S : Sound (chipOf h)) (bs : List ℕ) (s : State) (a : St
 
   pub so-far-is : soFar (s .rank) ≡ verdictSoFar (chipOf h) (recording bs)
   so-far-is = ap soFar rank-is ∙ so-far-carried (chipOf h) (recording bs)
+
+  pub waits-are : Waited (chipOf h) (s .rank) (standing (chipOf h) (recording bs))
+  waits-are = subst (λ n. Waited (chipOf h) n (standing (chipOf h) (recording bs))) (sym rank-is) (waited-carried (chipOf h) S (recording bs) (a .apart))
 
   -- closing is refused where the end edge is out of bounds; else it answers what the rules say
   pub close-is :

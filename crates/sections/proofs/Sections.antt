@@ -22,12 +22,12 @@ use Rattle.judge.specs.Calls.{holding, startOf, openOf, sectionOf, closed, clos
 use Rattle.rules.specs.Past.{edge, recording}
 use Rattle.rules.specs.Verdict.{shownVerdict, Apart, answer}
 use Rattle.rules.proofs.Facts.{Sound}
-use Rattle.rules.proofs.Whole.{carried, start-carried}
+use Rattle.carries.proofs.Whole.{carried, start-carried}
 use Rattle.sections.proofs.Openings.{taken-sound, opened-state}
 use Rattle.rules.proofs.Cutting.{steps, apart-all, recording-append}
 use Rattle.sections.proofs.Never.{open-in-range, section-in-range}
 use Rattle.sections.specs.Sections.{refusal, Fits, run, taken, Judges}
-use Rattle.sections.proofs.Section.{fits, Stands, edge-is, count-is, so-far-is, close-is, section-fits, section-refused, refused-is, verdict-is}
+use Rattle.sections.proofs.Section.{fits, Stands, edge-is, count-is, so-far-is, waits-are, close-is, section-fits, section-refused, refused-is, verdict-is}
 
 start-is : (h : Header) → startOf h ≡ holding h (carried (chipOf h) [])
 start-is h = ap (holding h) (start-carried (chipOf h))
@@ -37,6 +37,7 @@ judges h S bs s a = record {
   counted = count-is h S bs s a;
   last = edge-is h S bs s a;
   so-far = so-far-is h S bs s a;
+  waits = waits-are h S bs s a;
   refused = refused-is h S bs s a;
   unaltered = λ xs n. ap (λ (r : Answer). r .state) (section-refused h S bs s a xs (λ e. n (refused-is h S bs s a xs ∙ e)));
   verdict = λ xs e. verdict-is h S bs s a xs (sym (refused-is h S bs s a xs) ∙ e);

@@ -8,9 +8,9 @@
 //     4 bytes   for each section: its length, at most 65,536
 //     the sections, one after the other
 //
-// 0 and 1 print one line: the case's first refusal, or its closing. 2 and 3 print a line after each section, its refusal or
-// the verdict so far, and then the closing of what was taken. A closing is the verdict's line; for 1 and 3 the verdict, its 20
-// bytes, the banks, the registers and the refresh debt.
+// 0 and 1 print one line: the case's first refusal, or its closing. 2, 3 and 4 print a line after each section, its refusal or
+// the verdict so far, 4 also one of the 36 waiting times, and then the closing of what was taken. A closing is the verdict's line;
+// for 1, 3 and 4 the verdict, its 20 bytes, the banks, the registers and the refresh debt.
 mod show;
 
 use judge::State;
@@ -54,8 +54,8 @@ fn answered() -> bool {
     let print = head[0];
     let end = bits::word(head[2], head[3], head[4], head[5], head[6], head[7]);
     let start = opened(header, head[1]);
-    let run = judged(start, print / 2 == 1, pair(head[8], head[9]));
-    show::close(run, print % 2 == 1, end);
+    let run = judged(start, print, pair(head[8], head[9]));
+    show::close(run, (print % 2 == 1) | (print == 4), end);
     true
 }
 
@@ -77,20 +77,20 @@ fn opened(header: [u8; 8], length: u8) -> Run {
     }
 }
 
-fn judged(run: Run, told: bool, sections: u16) -> Run {
+fn judged(run: Run, print: u8, sections: u16) -> Run {
     let mut space = io::large_buffer();
     let bytes = sections as u32 * 4;
     let n = io::count(bytes as isize, &space);
-    judged_by(run, told, &mut space[..n])
+    judged_by(run, print, &mut space[..n])
 }
 
-fn judged_by(run: Run, told: bool, lengths: &mut [u8]) -> Run {
+fn judged_by(run: Run, print: u8, lengths: &mut [u8]) -> Run {
     let n = io::read_full(STDIN_FILENO, lengths);
-    all(run, told, &lengths[..n])
+    all(run, print, &lengths[..n])
 }
 
 // The sections of these lengths.
-fn all(start: Run, told: bool, lengths: &[u8]) -> Run {
+fn all(start: Run, print: u8, lengths: &[u8]) -> Run {
     let mut run = start;
     let mut at: usize = 0;
     while 4 <= lengths.len() - at {
@@ -100,39 +100,43 @@ fn all(start: Run, told: bool, lengths: &[u8]) -> Run {
             lengths[at + 2],
             lengths[at + 3],
         );
-        run = read(run, told, n);
+        run = read(run, print, n);
         at += 4;
     }
     run
 }
 
-fn read(run: Run, told: bool, length: u32) -> Run {
+fn read(run: Run, print: u8, length: u32) -> Run {
     let mut space = io::large_buffer();
     let n = io::count(length as isize, &space);
-    read_into(run, told, &mut space[..n])
+    read_into(run, print, &mut space[..n])
 }
 
-fn read_into(run: Run, told: bool, space: &mut [u8]) -> Run {
+fn read_into(run: Run, print: u8, space: &mut [u8]) -> Run {
     let n = io::read_full(STDIN_FILENO, space);
-    taken(run, told, &space[..n])
+    taken(run, print, &space[..n])
 }
 
-fn taken(run: Run, told: bool, section: &[u8]) -> Run {
+fn taken(run: Run, print: u8, section: &[u8]) -> Run {
     if run.refused != 0 {
         return run;
     }
     let state = run.state;
     let t = state.section(section);
     let next = t.state;
-    if told {
-        show::so_far(t.refused, t.verdict);
+    if print < 2 {
         return Run {
-            refused: 0,
+            refused: t.refused,
             state: next,
         };
     }
+    show::so_far(t.refused, t.verdict);
+    if print == 4 {
+        let waits = next.rank.waits;
+        show::waits(waits);
+    }
     Run {
-        refused: t.refused,
+        refused: 0,
         state: next,
     }
 }

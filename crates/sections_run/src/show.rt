@@ -4,6 +4,7 @@ use answers::End;
 use answers::Register;
 use answers::Shown;
 use answers::Verdict;
+use edges::Waits;
 use libc::STDOUT_FILENO;
 use lines::ROOM;
 
@@ -15,6 +16,29 @@ pub(crate) fn so_far(refused: u64, v: Verdict) {
         refusal(refused);
     } else {
         line(v);
+    }
+}
+
+// Eight of an ACT, of a RD, of a WR and of a PRE, then those of a REF, an MRS, a ZQ and an SRE.
+pub(crate) fn waits(w: Waits) {
+    let act = w.act;
+    let col = w.col;
+    let pre = w.pre;
+    let holds = w.holds;
+    io::print_decimal(STDOUT_FILENO, act[0]);
+    numbers(&act, 1);
+    numbers(&col, 0);
+    numbers(&pre, 0);
+    numbers(&holds, 0);
+    put(b"\n");
+}
+
+fn numbers(all: &[u64], from: usize) {
+    let mut i = from;
+    while i < all.len() {
+        put(b" ");
+        io::print_decimal(STDOUT_FILENO, all[i]);
+        i += 1;
     }
 }
 

@@ -10,14 +10,16 @@ use Rattle.answers.specs.declared.Register.{Register}
 use Rattle.answers.specs.declared.Verdict.{Verdict}
 use Rattle.chip.specs.declared.Chip.{Chip}
 use Rattle.chip.specs.declared.Regs.{Regs}
-use Rattle.running.specs.declared.Rank.{Rank}
 use Rattle.running.specs.declared.Written.{Written}
-use Rattle.running.specs.Ranges.{rankInRange, isSmall}
-use Rattle.running.specs.Step.{soFar}
-use Rattle.running.specs.Ends.{freshRank, noEnd, registersOf}
+use Rattle.running.specs.Ranges.{isSmall}
+use Rattle.running.specs.Ends.{noEnd, registersOf}
+use Rattle.edges.specs.declared.Rank.{Rank}
+use Rattle.edges.specs.Ranges.{rankInRange}
+use Rattle.edges.specs.Step.{soFar}
+use Rattle.edges.specs.Ends.{freshRank}
 
-pub fresh-unique : (level : Bool) (owed : ℕ) → Unique (λ (r : Rank). r ≡ freshRank level owed)
-fresh-unique level owed = one-answer (freshRank level owed)
+pub fresh-unique : (level : Bool) (due : ℕ) → Unique (λ (r : Rank). r ≡ freshRank level due)
+fresh-unique level due = one-answer (freshRank level due)
 
 pub in-range-unique : (n : Rank) → Unique (λ (r : Bool). r ≡ rankInRange n)
 in-range-unique n = one-answer (rankInRange n)

@@ -1,21 +1,26 @@
 // The ranges of a rank that is handed in, and of a chip's counts.
 use chip::Chip;
-use running::Kept;
-use running::Rank;
+use edges::Debt;
+use edges::Rank;
 ghost use mathlib.Core.Path.{_≡_};
-ghost use Rattle.running.specs.Ranges as ranges;
+ghost use Prim.Native.Nat.{_-_};
+ghost use lib.Dec.{leb};
+ghost use Rattle.running.specs.Ranges as counts;
+ghost use Rattle.edges.specs.Ranges as ranges;
 
 pub fn in_range(s: Rank) -> bool
     ensures { λ r. ⌜ r ≡ ranges.rankInRange s ⌝ }
 {
-    let banks = s.banks;
+    let actat = s.banks.actat;
+    let ring = s.acts.at;
     counted(s.count, s.edge)
-        & (((s.shared.debt.phase <= 17592186044416) & (s.shared.debt.owed <= 17592186044416))
-            & ((s.first.edge <= 17592186044416) & banks_ok(banks)))
+        & (debt_ok(s.edge, s.debt)
+            & ((s.acts.turn <= 3)
+                & ((s.first.edge <= 17592186044416) & (banks_ok(actat) & ring_ok(ring)))))
 }
 
 pub fn is_small(chip: Chip) -> bool
-    ensures { λ r. ⌜ r ≡ ranges.isSmall chip ⌝ }
+    ensures { λ r. ⌜ r ≡ counts.isSmall chip ⌝ }
 {
     (chip.trcd <= 70000000)
         & ((chip.trp <= 70000000)
@@ -30,7 +35,7 @@ pub fn is_small(chip: Chip) -> bool
 
 // The product is worked out only where the count is within the limit.
 fn counted(count: u32, edge: u64) -> bool
-    ensures { λ r. ⌜ r ≡ ranges.counted count edge ⌝ }
+    ensures { λ r. ⌜ r ≡ counts.counted count edge ⌝ }
 {
     if 1048576 < count {
         return false;
@@ -38,20 +43,52 @@ fn counted(count: u32, edge: u64) -> bool
     edge <= count as u64 * 16777216
 }
 
-fn banks_ok(banks: [Kept; 8]) -> bool
-    ensures { λ r. ⌜ r ≡ ranges.banksOk banks 8 ⌝ }
+// The clocks of a part that sleeps are counted from 0.
+fn debt_ok(edge: u64, debt: Debt) -> bool
+    ensures { λ r. ⌜ r ≡ ranges.debtOk edge debt ⌝ }
+{
+    if debt.sleeps {
+        return near(0, debt.due);
+    }
+    near(edge, debt.due)
+}
+
+// The difference is worked out only where there is one.
+fn near(edge: u64, due: u64) -> bool
+    ensures { λ r. ⌜ r ≡ leb (due - edge) ranges.farthest ⌝ }
+{
+    if due < edge {
+        return true;
+    }
+    due - edge <= 1190000000
+}
+
+fn banks_ok(at: [u64; 8]) -> bool
+    ensures { λ r. ⌜ r ≡ ranges.edgesOk at 8 ⌝ }
 {
     let mut ok = true;
     let mut i: usize = 0;
     while i < 8 {
-        ok = ok & bank_ok(banks[i]);
+        ok = ok & edge_ok(at[i]);
         i += 1;
     }
     ok
 }
 
-fn bank_ok(k: Kept) -> bool
-    ensures { λ r. ⌜ r ≡ ranges.bankOk k ⌝ }
+fn ring_ok(at: [u64; 4]) -> bool
+    ensures { λ r. ⌜ r ≡ ranges.edgesOk at 4 ⌝ }
 {
-    k.acted.at <= 17592186044416
+    let mut ok = true;
+    let mut i: usize = 0;
+    while i < 4 {
+        ok = ok & edge_ok(at[i]);
+        i += 1;
+    }
+    ok
+}
+
+fn edge_ok(at: u64) -> bool
+    ensures { λ r. ⌜ r ≡ leb at counts.lastEdge ⌝ }
+{
+    at <= 17592186044416
 }

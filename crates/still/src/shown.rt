@@ -4,13 +4,13 @@ use answers::Register;
 use answers::Shown;
 use answers::Verdict;
 use chip::Regs;
-use running::Rank;
+use edges::Rank;
 use running::Written;
 use says::clean_at;
 use says::none;
 ghost use mathlib.Core.Path.{_≡_};
 ghost use Rattle.running.specs.Ends as ends;
-ghost use Rattle.running.specs.Step as step;
+ghost use Rattle.edges.specs.Step as step;
 
 pub fn no_end() -> End
     ensures { λ r. ⌜ r ≡ ends.noEnd ⌝ }

@@ -15,18 +15,18 @@ use Rattle.chip.specs.declared.Chip.{Chip}
 use Rattle.chip.specs.Chip.{chipOf}
 use Rattle.records.specs.declared.Record.{Record}
 use Rattle.records.specs.Record.{records, hasZero}
-use Rattle.running.specs.declared.Shared.{Shared}
-use Rattle.running.specs.declared.Rank.{Rank}
+use Rattle.edges.specs.declared.Rank.{Rank}
 use Rattle.judge.specs.declared.State.{State}
 use Rattle.header.specs.declared.Parsed.{Parsed}
 use Rattle.header.specs.declared.Parsed.the-variants.{Taken as TakenHeader, Refused}
 use Rattle.header.specs.Bytes.{parsedOf}
-use Rattle.running.specs.Ends.{freshRank}
+use Rattle.edges.specs.Ends.{freshRank}
 use Rattle.judge.specs.Calls.{holding, openedBy, openOf, refuse, take, sectionOf}
 use Rattle.running.specs.Ranges.{limit}
 use Rattle.judge.specs.Ranges.{inRange}
 use Rattle.running.specs.Said.{isClean}
-use Rattle.running.specs.Step.{turnIn, movedOf, stoppedOf, stepOf, foldOf}
+use Rattle.edges.specs.Says.{saysOf}
+use Rattle.edges.specs.Step.{movedOf, stoppedOf, stepOf, foldOf}
 use Rattle.program.specs.declared.Run.{Run}
 use Rattle.program.specs.Program.{openedRun, ranOver}
 use Rattle.program.proofs.Blocks.{after, goes, had-more, was-full}
@@ -38,16 +38,16 @@ pub record Full (before after : State) : Type 0 where
   pub within : after .rank .count ≤ limit
 
 module _ (C : Chip) where
-  by-cases : (s : Rank) (r : Record) (t : Shared) (v w : Verdict) (x y : Bool)
-      → cond x (cond y (movedOf C s r t) (stoppedOf s r v)) (stoppedOf s r w) .count ≡ s .count + 1
+  by-cases : (s : Rank) (r : Record) (v w : Verdict) (x y : Bool)
+      → cond x (cond y (movedOf C s r) (stoppedOf s r v)) (stoppedOf s r w) .count ≡ s .count + 1
   unfolding movedOf stoppedOf
-  by-cases s r t v w true true = refl
-  by-cases s r t v w true false = refl
-  by-cases s r t v w false y = refl
+  by-cases s r v w true true = refl
+  by-cases s r v w true false = refl
+  by-cases s r v w false y = refl
 
   one-more : (s : Rank) (r : Record) → stepOf C s r .count ≡ s .count + 1
   unfolding stepOf
-  one-more s r = by-cases s r _ _ _ (isClean (s .first)) (isClean (turnIn C s r .verdict))
+  one-more s r = by-cases s r _ _ (isClean (s .first)) (isClean (saysOf C s r))
 
   all-more : (s : Rank) (rs : List Record) → foldOf C s rs .count ≡ s .count + length rs
   all-more s [] = sym (add-zero (s .count))

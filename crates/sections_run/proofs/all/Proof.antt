@@ -7,10 +7,10 @@ use Rattle.sections_run.proofs.all.Statement.{statement}
 use Rattle.sections_run.proofs.all.Tie as tie
 
 abbrev Inv-loop : tie.InvT-loop
-Inv-loop told lengths run₀ at₀ run at = at ≤ length lengths
+Inv-loop print lengths run₀ at₀ run at = at ≤ length lengths
 
 abbrev μ-loop : tie.MeasureT-loop
-μ-loop told lengths run₀ at₀ run at = length lengths - at
+μ-loop print lengths run₀ at₀ run at = length lengths - at
 
 loop-holds : tie.Need-loop-holds Inv-loop μ-loop
 loop-holds c = search needs

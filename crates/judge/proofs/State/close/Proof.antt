@@ -3,7 +3,7 @@
 use borrow.Author.Tests.{not-true, not-false}
 use mathlib.Core.Path.{sym, ap, _∙_}
 use Rattle.chip.specs.declared.Chip.{Chip}
-use Rattle.running.specs.Ends.{endedOf}
+use Rattle.edges.specs.Ends.{endedOf}
 use Rattle.judge.specs.Calls.{closed, closeOf}
 use Rattle.judge.proofs.Ranging.{ends}
 use borrow.Author.Needs.{needs}
@@ -25,7 +25,9 @@ not-closed-requires-2 c κs = search needs
 
 returns-2 : tie.Need-returns-2
 unfolding closeOf
-returns-2 c = c .not-closed2 .ensures ∙ rw (sym (c .before .before .before .before .in-range .ensures) ∙ not-false _ (c .before .before .before .if1 .left), c .before .if2 .taken)
+returns-2 c =
+    let first = c .before .before .before in
+    c .not-closed2 .ensures ∙ rw (sym (first .before .in-range .ensures) ∙ not-false _ (first .if1 .left), c .before .if2 .taken)
 
 chip-of-requires : tie.Need-chip-of-requires
 chip-of-requires c κs = search needs
@@ -36,10 +38,12 @@ end-requires c κs = search needs
 returns-3 : tie.Need-returns-3
 unfolding closeOf
 returns-3 c =
-    let s = c .before .before .before .before .before .before .args .self in
-    let t = c .before .before .before .before .before .before .args .end in
-    ap closed (c .end .ensures ∙ ap (λ (C : Chip). endedOf C (s .rank) t) (c .before .chip-of .ensures) ∙ ends s (sym (c .before .before .before .before .before .in-range .ensures) ∙ not-false _ (c .before .before .before .before .if1 .left)) t (c .before .before .if2 .left))
-    ∙ rw (sym (c .before .before .before .before .before .in-range .ensures) ∙ not-false _ (c .before .before .before .before .if1 .left), c .before .before .if2 .left)
+    let second = c .before .before in
+    let first = second .before .before in
+    let start = first .before .before in
+    let range = sym (first .before .in-range .ensures) ∙ not-false _ (first .if1 .left) in
+    let made = ap (λ (C : Chip). endedOf C (start .args .self .rank) (start .args .end)) (c .before .chip-of .ensures) in
+    ap closed (c .end .ensures ∙ made ∙ ends (start .args .self) range (start .args .end) (second .if2 .left)) ∙ rw (range, second .if2 .left)
 
 pub close-spec : {M : Type 1} → statement M
 close-spec =

@@ -1,8 +1,23 @@
 -- The header, and a rank with no record.
 -- Assumes nothing.
+use Prim.Native.Nat.{_*_}
+use native.Mathlib.Omega.{arith}
+use mathlib.Core.Bool.{true}
+use mathlib.Core.Path.{ap, _∙_}
+use Rattle.units.specs.declared.Clocks.{Clocks}
+use Rattle.header.proofs.Bounds.{bounds}
+use Rattle.chip.specs.Chip.{chipOf}
+use Rattle.edges.specs.Ends.{freshRank}
+use Rattle.judge.specs.Calls.{holding}
 use borrow.Author.Needs.{needs}
 use Rattle.judge.proofs.calls.start.Statement.{statement}
 use Rattle.judge.proofs.calls.start.Tie as tie
+
+trefi-requires : tie.Need-trefi-requires
+trefi-requires c κs = search needs
+
+mul-fresh : tie.Need-mul-fresh
+mul-fresh c = omega (arith, ap (λ (k : Clocks). k .clocks) (c .trefi .ensures), bounds (c .before .args .h) .refi)
 
 fresh-requires : tie.Need-fresh-requires
 fresh-requires c κs = search needs
@@ -11,7 +26,11 @@ holding-requires : tie.Need-holding-requires
 holding-requires c κs = search needs
 
 returns : tie.Need-returns
-returns c = simp (c .holding .ensures, c .before .fresh .ensures)
+unfolding chipOf
+returns c =
+    c .holding .ensures
+    ∙ ap (holding (c .before .before .before .args .h))
+    (c .before .fresh .ensures ∙ ap (λ (k : Clocks). freshRank true (9 * k .clocks)) (c .before .before .trefi .ensures))
 
 pub start-spec : {M : Type 1} → statement M
-start-spec = tie.close (tie.spec fresh-requires holding-requires returns)
+start-spec = tie.close (tie.spec trefi-requires mul-fresh fresh-requires holding-requires returns)

@@ -2,11 +2,11 @@
 -- Assumes nothing.
 use borrow.Author.Tests.{not-true, not-false, ltb-false}
 use lib.Dec.{ltb}
-use native.Mathlib.Omega.{arith}
 use mathlib.Core.Path.{sym, _∙_}
-use Rattle.running.specs.Ends.{endedOf}
 use Rattle.running.proofs.Both.{neither}
-use Rattle.running.proofs.Ranging.{tested, small-tested}
+use Rattle.running.proofs.Ranging.{small-tested}
+use Rattle.edges.proofs.Ranging.{ranged}
+use Rattle.edges.specs.Ends.{endedOf}
 use borrow.Author.Needs.{needs}
 use Rattle.rank.proofs.closing.end.Statement.{statement}
 use Rattle.rank.proofs.closing.end.Tie as tie
@@ -29,31 +29,38 @@ no-end-requires-2 c κs = search needs
 
 returns-2 : tie.Need-returns-2
 unfolding endedOf
-returns-2 c = c .no-end2 .ensures ∙ rw (sym (c .before .before .before .before .is-small .ensures) ∙ not-false _ (c .before .before .before .if1 .left), sym (c .before .before .in-range .ensures) ∙ not-true _ (c .before .if2 .taken))
+returns-2 c =
+    let d = c .before in
+    let small = sym (d .before .before .before .is-small .ensures) ∙ not-false _ (d .before .before .if1 .left) in
+    c .no-end2 .ensures ∙ rw (small, sym (d .before .in-range .ensures) ∙ not-true _ (d .if2 .taken))
 
 no-end-requires-3 : tie.Need-no-end-requires-3
 no-end-requires-3 c κs = search needs
 
 returns-3 : tie.Need-returns-3
 unfolding endedOf
-returns-3 c = c .no-end3 .ensures ∙ rw (sym (c .before .before .before .before .before .before .is-small .ensures) ∙ not-false _ (c .before .before .before .before .before .if1 .left), sym (c .before .before .before .before .in-range .ensures) ∙ not-false _ (c .before .before .before .if2 .left), c .before .if3 .taken)
+returns-3 c =
+    let d = c .before .before .before in
+    let small = sym (d .before .before .before .is-small .ensures) ∙ not-false _ (d .before .before .if1 .left) in
+    let range = sym (d .before .in-range .ensures) ∙ not-false _ (d .if2 .left) in
+    c .no-end3 .ensures ∙ rw (small, range, c .before .if3 .taken)
 
 closed-requires : tie.Need-closed-requires
 closed-requires c κs =
-    let t = tested _ (sym (c .before .before .before .in-range .ensures) ∙ not-false _ (c .before .before .if2 .left)) in
-    let e = neither (ltb (c .before .before .before .before .before .before .args .at) (c .before .before .before .before .before .before .args .s .edge)) (ltb 17592186044416 (c .before .before .before .before .before .before .args .at)) (c .if3 .left) in
-    record {
-      small = small-tested _ (sym (c .before .before .before .before .before .is-small .ensures) ∙ not-false _ (c .before .before .before .before .if1 .left));
-      edge = omega (arith, t .count, t .range .edge);
-      phase = t .range .phase;
-      owed = t .range .owed;
-      broke = t .range .broke;
-      until = ltb-false _ _ (e .1);
-    }
+    let d = c .before .before in
+    let a = d .before .before .before .before .args in
+    let small = sym (d .before .before .before .is-small .ensures) ∙ not-false _ (d .before .before .if1 .left) in
+    let range = sym (d .before .in-range .ensures) ∙ not-false _ (d .if2 .left) in
+    let near = neither (ltb (a .at) (a .s .edge)) (ltb 17592186044416 (a .at)) (c .if3 .left) .1 in
+    (small-tested _ small, (ranged _ range, ltb-false _ _ near))
 
 returns-4 : tie.Need-returns-4
 unfolding endedOf
-returns-4 c = c .closed .ensures ∙ rw (sym (c .before .before .before .before .before .before .is-small .ensures) ∙ not-false _ (c .before .before .before .before .before .if1 .left), sym (c .before .before .before .before .in-range .ensures) ∙ not-false _ (c .before .before .before .if2 .left), c .before .if3 .left)
+returns-4 c =
+    let d = c .before .before .before in
+    let small = sym (d .before .before .before .is-small .ensures) ∙ not-false _ (d .before .before .if1 .left) in
+    let range = sym (d .before .in-range .ensures) ∙ not-false _ (d .if2 .left) in
+    c .closed .ensures ∙ rw (small, range, c .before .if3 .left)
 
 pub end-spec : {M : Type 1} → statement M
 end-spec =

@@ -1,27 +1,24 @@
--- The intervals that have passed since.
+-- The intervals that are left.
 -- Assumes nothing.
 use borrow.Author.Needs.{needs}
 use Rattle.rank.proofs.closing.owed_now.Statement.{statement}
 use Rattle.rank.proofs.closing.owed_now.Tie as tie
 
+of-two-requires : tie.Need-of-two-requires
+of-two-requires c κs = search needs
+
 since-requires : tie.Need-since-requires
 since-requires c κs = search needs
 
-awake-requires : tie.Need-awake-requires
-awake-requires c κs = search needs
+begun-requires : tie.Need-begun-requires
+begun-requires c κs = search needs
 
-add-total : tie.Need-add-total
-add-total c = search needs
-
-whole-requires : tie.Need-whole-requires
-whole-requires c κs = search needs
-
-add-result : tie.Need-add-result
-add-result c = search needs
+since-requires-2 : tie.Need-since-requires-2
+since-requires-2 c κs = search needs
 
 returns : tie.Need-returns
-returns c = simp (c .before .whole .ensures .0, c .before .before .before .awake .ensures .0, c .before .before .before .before .since .ensures)
+returns c = simp (c .since2 .ensures, c .before .begun .ensures, c .before .before .since .ensures, c .before .before .before .of-two .ensures)
 
 pub owed-now-spec : {M : Type 1} → statement M
 owed-now-spec =
-    tie.close (tie.spec since-requires awake-requires add-total whole-requires add-result returns)
+    tie.close (tie.spec of-two-requires since-requires begun-requires since-requires-2 returns)

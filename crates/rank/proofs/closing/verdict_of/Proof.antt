@@ -1,16 +1,15 @@
 -- The break so far, a deadline, or clean.
 -- Assumes nothing.
-use native.Mathlib.Omega.{arith}
-use mathlib.Core.Path.{_∙_}
 use borrow.Author.Tests.{eq-eqb, ne-eqb}
-use Rattle.running.specs.Ends.{verdictOf}
+use mathlib.Core.Path.{_∙_}
+use Rattle.edges.specs.Ends.{verdictOf}
 use borrow.Author.Needs.{needs}
 use Rattle.rank.proofs.closing.verdict_of.Statement.{statement}
 use Rattle.rank.proofs.closing.verdict_of.Tie as tie
 
 returns : tie.Need-returns
 unfolding verdictOf
-returns c = (rw (ne-eqb _ _ (c .if1 .taken)), omega arith)
+returns c = rw (ne-eqb _ _ (c .if1 .taken))
 
 add-next-late : tie.Need-add-next-late
 add-next-late c = search needs
@@ -23,10 +22,7 @@ told-requires c κs = search needs
 
 returns-2 : tie.Need-returns-2
 unfolding verdictOf
-returns-2 c = (
-  c .told .ensures .0 ∙ rw (eq-eqb _ _ (c .before .before .if1 .left), ← c .before .next-late .ensures),
-  c .told .ensures .1,
-)
+returns-2 c = c .told .ensures ∙ rw (eq-eqb _ _ (c .before .before .if1 .left), ← c .before .next-late .ensures)
 
 pub verdict-of-spec : {M : Type 1} → statement M
 verdict-of-spec =

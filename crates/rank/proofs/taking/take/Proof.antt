@@ -1,9 +1,11 @@
 -- What lets no sum wrap, one test after the other; then the records.
 -- Assumes nothing.
-use borrow.Author.Tests.{lt-ltb, le-ltb, eq-eqb, ne-eqb, not-true, not-false}
+use native.Mathlib.Omega.{arith}
+use borrow.Author.Tests.{not-true, not-false, ltb-false, ne-eqb, eq-eqb, lt-ltb, le-ltb}
 use mathlib.Core.Path.{sym, _∙_}
-use Rattle.running.specs.Ends.{takenOf}
-use Rattle.running.proofs.Ranging.{tested, small-tested}
+use Rattle.running.proofs.Ranging.{small-tested}
+use Rattle.edges.proofs.Ranging.{ranged}
+use Rattle.edges.specs.Ends.{takenOf}
 use borrow.Author.Needs.{needs}
 use Rattle.rank.proofs.taking.take.Statement.{statement}
 use Rattle.rank.proofs.taking.take.Tie as tie
@@ -28,8 +30,9 @@ in-range-requires c κs = search needs
 returns-3 : tie.Need-returns-3
 unfolding takenOf
 returns-3 c =
-    let room = c .before .before in
-    rw (eq-eqb _ _ (room .before .before .if1 .left), le-ltb _ _ (room .if2 .left), sym (c .before .in-range .ensures) ∙ not-true _ (c .if3 .taken))
+    let d = c .before .before in
+    let range = sym (c .before .in-range .ensures) ∙ not-true _ (c .if3 .taken) in
+    rw (eq-eqb _ _ (d .before .before .if1 .left), le-ltb _ _ (d .if2 .left), range)
 
 is-small-requires : tie.Need-is-small-requires
 is-small-requires c κs = search needs
@@ -37,39 +40,30 @@ is-small-requires c κs = search needs
 returns-4 : tie.Need-returns-4
 unfolding takenOf
 returns-4 c =
-    let ranged = c .before .before in
-    let room = ranged .before .before in
-    rw (
-      eq-eqb _ _ (room .before .before .if1 .left),
-      le-ltb _ _ (room .if2 .left),
-      sym (ranged .before .in-range .ensures) ∙ not-false _ (ranged .if3 .left),
-      sym (c .before .is-small .ensures) ∙ not-true _ (c .if4 .taken),
-    )
+    let d = c .before .before .before .before in
+    let range = sym (c .before .before .before .in-range .ensures) ∙ not-false _ (c .before .before .if3 .left) in
+    let small = sym (c .before .is-small .ensures) ∙ not-true _ (c .if4 .taken) in
+    rw (eq-eqb _ _ (d .before .before .if1 .left), le-ltb _ _ (d .if2 .left), range, small)
 
 fold-requires : tie.Need-fold-requires
 fold-requires c κs =
-    let ranged = c .before .before in
-    let room = ranged .before .before in
+    let d = c .before .before .before .before in
+    let range = sym (c .before .before .before .in-range .ensures) ∙ not-false _ (c .before .before .if3 .left) in
+    let small = sym (c .before .is-small .ensures) ∙ not-false _ (c .if4 .left) in
     record {
-      small = small-tested _ (sym (c .before .is-small .ensures) ∙ not-false _ (c .if4 .left));
-      range = tested _ (sym (ranged .before .in-range .ensures) ∙ not-false _ (ranged .if3 .left)) .range;
-      sixes = room .before .before .if1 .left;
-      room = room .if2 .left;
+      small = small-tested _ small;
+      range = ranged _ range;
+      sixes = d .before .before .if1 .left;
+      room = d .if2 .left;
     }
 
 returns-5 : tie.Need-returns-5
 unfolding takenOf
 returns-5 c =
-    let small = c .before in
-    let ranged = small .before .before in
-    let room = ranged .before .before in
-    c .fold .ensures
-    ∙ rw (
-      eq-eqb _ _ (room .before .before .if1 .left),
-      le-ltb _ _ (room .if2 .left),
-      sym (ranged .before .in-range .ensures) ∙ not-false _ (ranged .if3 .left),
-      sym (small .before .is-small .ensures) ∙ not-false _ (small .if4 .left),
-    )
+    let d = c .before .before .before .before .before in
+    let range = sym (c .before .before .before .before .in-range .ensures) ∙ not-false _ (c .before .before .before .if3 .left) in
+    let small = sym (c .before .before .is-small .ensures) ∙ not-false _ (c .before .if4 .left) in
+    c .fold .ensures ∙ rw (eq-eqb _ _ (d .before .before .if1 .left), le-ltb _ _ (d .if2 .left), range, small)
 
 pub take-spec : {M : Type 1} → statement M
 take-spec =

@@ -1,40 +1,33 @@
--- The eight banks in turn.
+-- The edges in turn.
 -- Assumes nothing.
-use Prim.Native.Nat.{ℕ, suc, _+_, _≤_, _-_}
+use Prim.Native.Nat.{_≤_, _-_}
 use native.Mathlib.Omega.{arith}
 use mathlib.Core.Bool.{_&&_}
-use mathlib.Core.List.{List}
 use mathlib.Core.Path.{_≡_, refl, ap, _∙_}
-use lib.ListN.{getD}
 use borrow.Author.Needs.{needs}
-use Rattle.running.specs.declared.Kept.{Kept}
-use Rattle.running.specs.Marks.{empty}
-use Rattle.running.specs.Ranges.{bankOk, banksOk}
+use Rattle.edges.specs.Ranges.{edgesOk}
+use Rattle.still.proofs.Places.{one-more}
 use Rattle.still.proofs.ranges.banks_ok.Statement.{statement}
 use Rattle.still.proofs.ranges.banks_ok.Tie as tie
 
 abbrev Inv-loop : tie.InvT-loop
-Inv-loop banks ok₀ i₀ ok i = (i ≤ 8) × (ok ≡ banksOk banks i)
+Inv-loop at ok₀ i₀ ok i = (i ≤ 8) × (ok ≡ edgesOk at i)
 
 abbrev μ-loop : tie.MeasureT-loop
-μ-loop banks ok₀ i₀ ok i = 8 - i
-
-one-more : (ks : List Kept) (i : ℕ) → banksOk ks i && bankOk (getD ks i empty) ≡ banksOk ks (i + 1)
-unfolding banksOk
-one-more ks i = let e : suc i ≡ i + 1 = omega arith in ap (banksOk ks) e
+μ-loop at ok₀ i₀ ok i = 8 - i
 
 loop-holds : tie.Need-loop-holds Inv-loop μ-loop
-unfolding banksOk
+unfolding edgesOk
 loop-holds c = (search needs, refl)
 
-mul-bank-ok : tie.Need-mul-bank-ok Inv-loop μ-loop
-mul-bank-ok c = search needs
+mul-edge-ok : tie.Need-mul-edge-ok Inv-loop μ-loop
+mul-edge-ok c = search needs
 
-array-copy-out-bank-ok : tie.Need-array-copy-out-bank-ok Inv-loop μ-loop
-array-copy-out-bank-ok c = search needs
+array-read-edge-ok : tie.Need-array-read-edge-ok Inv-loop μ-loop
+array-read-edge-ok c = search needs
 
-bank-ok-requires : tie.Need-bank-ok-requires Inv-loop μ-loop
-bank-ok-requires c κs = search needs
+edge-ok-requires : tie.Need-edge-ok-requires Inv-loop μ-loop
+edge-ok-requires c κs = search needs
 
 add-i : tie.Need-add-i Inv-loop μ-loop
 add-i c = search needs
@@ -43,10 +36,10 @@ loop-less : tie.Need-loop-less Inv-loop μ-loop
 loop-less c = search needs
 
 loop-again : tie.Need-loop-again Inv-loop μ-loop
-loop-again c = let l = c .before .before .before .loop in (search needs, (λ j. l .inv .1 j && c .bank-ok .ensures j) ∙ one-more _ (l .i))
+loop-again c = let l = c .before .before .loop in (search needs, (λ j. l .inv .1 j && c .edge-ok .ensures j) ∙ one-more _ (l .i))
 
 returns : tie.Need-returns Inv-loop μ-loop
-returns c = let l = c .before .loop in l .inv .1 ∙ ap (banksOk _) (omega arith)
+returns c = let l = c .before .loop in l .inv .1 ∙ ap (edgesOk _) (omega arith)
 
 pub banks-ok-spec : {M : Type 1} → statement M
 banks-ok-spec =
@@ -55,9 +48,9 @@ banks-ok-spec =
     Inv-loop
     μ-loop
     loop-holds
-    mul-bank-ok
-    array-copy-out-bank-ok
-    bank-ok-requires
+    mul-edge-ok
+    array-read-edge-ok
+    edge-ok-requires
     add-i
     loop-less
     loop-again

@@ -1,7 +1,7 @@
 -- The break, or clean at the last edge.
 -- Assumes nothing.
 use borrow.Author.Tests.{eq-eqb, ne-eqb}
-use Rattle.running.specs.Step.{soFar}
+use Rattle.edges.specs.Step.{soFar}
 use borrow.Author.Needs.{needs}
 use Rattle.still.proofs.shown.so_far.Statement.{statement}
 use Rattle.still.proofs.shown.so_far.Tie as tie

@@ -1,0 +1,52 @@
+-- The banks are seen one after the other.
+-- Assumes nothing.
+use Prim.Native.Nat.{ℕ, _+_, _≤_, _<_}
+use native.Mathlib.Omega.{arith}
+use mathlib.Core.Bool.{Bool, true, false}
+use mathlib.Core.List.{List}
+use mathlib.Core.Logic.{_⊎_, inl, inr, ⊎-elim}
+use mathlib.Core.Path.{_≡_, refl, sym, subst}
+use lib.Dec.{ltb}
+use lib.ListN.{getD}
+use borrow.Author.Tests.{ltb-true, ltb-false}
+use Rattle.edges.specs.Clearing.{dueBy, Off, Clears, ClearTo, NoneAbove}
+
+pub off-sooner : (lo x x′ d : ℕ) → x′ ≤ x → Off lo x d → Off lo x′ d
+off-sooner lo x x′ d l h = ⊎-elim inl (λ u. inr (omega (arith, u, l))) h
+
+module _ (most : ℕ) (actat actno shutat shutno : List ℕ) (lo : ℕ) where
+  pub clear-start : ClearTo most actat actno shutat shutno lo (lo + most + 1) 0
+  clear-start = record { seen = λ i l. absurd (omega (arith, l)); near = omega arith; within = omega arith }
+
+  module _ (x b : ℕ) (h : ClearTo most actat actno shutat shutno lo x b) where
+    pub clear-next : (x′ : ℕ) → b < 8 → Off lo x′ (dueBy most (getD actat b 0) (getD actno b 0) (getD shutat b 0) (getD shutno b 0)) → x′ ≤ x
+        → ClearTo most actat actno shutat shutno lo x′ (b + 1)
+    clear-next x′ less off below = record {
+      seen = λ i l. go i l (ltb i b) refl;
+      near = omega (arith, h .near, below);
+      within = omega (arith, less);
+    }
+      where
+        go : (i : ℕ) → i < b + 1 → (z : Bool) → ltb i b ≡ z → Off lo x′ (dueBy most (getD actat i 0) (getD actno i 0) (getD shutat i 0) (getD shutno i 0))
+        go i l true e = off-sooner lo x x′ _ below (h .seen i (ltb-true i b e))
+        go i l false e =
+            subst (λ k. Off lo x′ (dueBy most (getD actat k 0) (getD actno k 0) (getD shutat k 0) (getD shutno k 0))) same off
+          where
+            same : b ≡ i
+            same = omega (arith, l, ltb-false i b e)
+
+    pub clear-end : (x′ : ℕ) → 8 ≤ b → x′ ≤ x → Clears most actat actno shutat shutno lo x′
+    clear-end x′ all below i l = off-sooner lo x x′ _ below (h .seen i (omega (arith, l, all)))
+
+pub none-start : (nums : List ℕ) (n : ℕ) → NoneAbove nums n 0
+none-start nums n = record { seen = λ i l. absurd (omega (arith, l)); within = omega arith }
+
+pub none-next : (nums : List ℕ) (n b : ℕ) → NoneAbove nums n b → b < 8 → getD nums b 0 ≤ n → NoneAbove nums n (b + 1)
+none-next nums n b h less here = record { seen = λ i l. go i l (ltb i b) refl; within = omega (arith, less) }
+  where
+    go : (i : ℕ) → i < b + 1 → (z : Bool) → ltb i b ≡ z → getD nums i 0 ≤ n
+    go i l true e = h .seen i (ltb-true i b e)
+    go i l false e = subst (λ k. getD nums k 0 ≤ n) same here
+      where
+        same : b ≡ i
+        same = omega (arith, l, ltb-false i b e)

@@ -1,0 +1,275 @@
+-- The turns of the lane, for every rank of its arrays that is not broken.
+-- Assumes nothing.
+use Prim.Native.Nat.{ℕ, _+_, _-_, _*_, _/_, _≤_, _<_}
+use native.Mathlib.Omega.{arith}
+use mathlib.Core.Bool.{Bool, true, false, cond, not, _&&_, _||_}
+use mathlib.Core.List.{List}
+use mathlib.Core.Logic.{_⊎_, inl, inr, ⊎-elim}
+use mathlib.Core.Path.{_≡_, refl, sym, ap, _∙_, subst}
+use lib.Dec.{eqb, leb}
+use lib.ListN.{getD, length}
+use borrow.Author.Tests.{eqb-false, leb-false, not-false}
+use Rattle.laws.specs.Eight.{table}
+use Rattle.answers.specs.declared.Verdict.{Verdict}
+use Rattle.records.specs.declared.Record.{Record}
+use Rattle.records.specs.declared.Command.{Command}
+use Rattle.records.specs.declared.Command.the-variants.{Mrs, Ref, Pre, Sre, Srx}
+use Rattle.records.specs.Record.{recordAt}
+use Rattle.records.specs.Command.{rank, isA, commandOf}
+use Rattle.chip.specs.declared.Chip.{Chip}
+use Rattle.chip.specs.declared.Regs.{Regs}
+use Rattle.running.specs.declared.Asks.{Asks}
+use Rattle.running.specs.Easy.{Asked}
+use Rattle.running.specs.Said.{noVerdict}
+use Rattle.running.specs.Ranges.{lastEdge, farEdge}
+use Rattle.running.proofs.Both.{both, neither}
+use Rattle.edges.specs.declared.Banks.{Banks}
+use Rattle.edges.specs.declared.Device.{Device}
+use Rattle.edges.specs.declared.Debt.{Debt}
+use Rattle.edges.specs.declared.Floor.{Floor}
+use Rattle.edges.specs.Views.{regsOf, writtenOf}
+use Rattle.edges.specs.Next.{counting, paid, debtNext, deviceNext}
+use Rattle.edges.specs.Step.{stepOf}
+use Rattle.edges.specs.Clearing.{Off, Clears, Owing}
+use Rattle.edges.specs.Seldom.{MayCome}
+use Rattle.edges.specs.Ranges.{farthest}
+use Rattle.edges.specs.Running.{Track, Rest, heldBy, rankOf, allWritten, Standing, Quickly}
+use Rattle.edges.specs.Lane.{restBy, Fit, Clear, Folding, Laning, Smoothly, Leaves}
+use Rattle.edges.proofs.Dues.{due-at, same-soon}
+use Rattle.edges.proofs.Ways.{Sized}
+use Rattle.edges.proofs.Turns.{Lengths, fold-start, quick-stands, quick-still, quick-done, fold-more}
+use Rattle.edges.proofs.Coming.{nextRest, nextTrack, seldom-step}
+
+pub by-the-codes : {C : Chip} {g G : Regs} {w : Asks} → Asked C g w → g ≡ G → Asked C G w
+by-the-codes {C = C} {w = w} h e = subst (λ (G : Regs). Asked C G w) e h
+
+-- by the arrays
+cleared : (C : Chip) (clear : ℕ) (d : Rest) (t : Track)
+    → Clears (C .most) (t .banks .actat) (t .banks .actno) (t .banks .shutat) (t .banks .shutno) (t .edge) clear → clear ≤ t .edge + C .most + 1
+    → Owing (d .debt) clear → Clear C clear d t
+cleared C clear d t h near owed = record { due = λ b l. subst (Off (t .edge) clear) (sym (due-at C (t .banks) b l)) (h b l); near = near; owed = owed }
+
+-- a list of eight, all of it put anew or not
+eight : (yes : Bool) (xs ys : List ℕ) (v : ℕ) → ys ≡ cond yes (table (λ _. v)) xs → length xs ≡ 8 → length ys ≡ 8
+unfolding table
+eight true xs ys v e k = ap (λ (z : List ℕ). length z) e
+eight false xs ys v e k = ap (λ (z : List ℕ). length z) e ∙ k
+
+-- only an MRS writes a register
+same-regs : (C : Chip) (c : Command) (r : Record) (e n : ℕ) (D : Device) → isA Mrs c ≡ false → regsOf (deviceNext C c r e n D) ≡ regsOf D
+unfolding deviceNext
+same-regs C c r e n D h = rw h
+
+-- of the seldom commands only an SRX brings the debt's edge nearer
+kept-owed : (C : Chip) (c : Command) (e : ℕ) (x : Debt) (clear : ℕ) → isA Srx c ≡ false → Owing x clear → Owing (debtNext C c e x) clear
+unfolding debtNext
+kept-owed C c e x clear h o = go (isA Ref c) (isA Sre c) (isA Srx c) h
+  where
+    later : (q : Bool) → clear ≤ x .due → clear ≤ cond q (x .due + C .trefi) (x .due)
+    later true y = omega (arith, y)
+    later false y = y
+
+    go : (a b d : Bool) → d ≡ false
+        → Owing (cond a (record { sleeps = x .sleeps; due = paid (C .trefi) (counting x e) (x .due) }) (cond b (record { sleeps = true; due = x .due - counting x e })
+        (cond d (record { sleeps = false; due = cond (x .sleeps) (x .due + e) (x .due) }) x))) clear
+    go true b d z = ⊎-elim inl (λ y. inr (later (leb (x .due) (counting x e + 16 * C .trefi)) y)) o
+    go false true d z = inl refl
+    go false false false z = o
+    go false false true z = let u : true ≡ false = z in let n : _≡_ {A = ℕ} 0 1 = cc in absurd (omega arith)
+
+-- the track after a seldom command
+abbrev pub trackAfter : Track → (e n : ℕ) (shutat shutno : List ℕ) → Floor → Track
+trackAfter t e n sa sn f =
+    record {
+      edge = e;
+      count = n;
+      banks =
+          record {
+            actat = t .banks .actat;
+            actno = t .banks .actno;
+            actneed = t .banks .actneed;
+            row = t .banks .row;
+            colat = t .banks .colat;
+            colno = t .banks .colno;
+            colpre = t .banks .colpre;
+            colturn = t .banks .colturn;
+            colout = t .banks .colout;
+            shutat = sa;
+            shutno = sn;
+          };
+      act = t .act;
+      col = t .col;
+      pre = t .pre;
+      acts = t .acts;
+      floor = f;
+    }
+
+-- the beginning
+pub lane-start : (C : Chip) (bytes : List ℕ) (from : ℕ) (l : Bool) (x : Debt) (h : List ℕ) (D : Device) (t : Track) (clear : ℕ) (real : Bool) (w : Asks)
+    → Fit C bytes from x t → Clears (C .most) (t .banks .actat) (t .banks .actno) (t .banks .shutat) (t .banks .shutno) (t .edge) clear
+    → clear ≤ t .edge + C .most + 1 → Owing x clear → (real ≡ true → (b : ℕ) → b < 8 → getD (t .banks .actno) b 0 ≤ t .count) → Asked C (regsOf D) w
+    → Laning C bytes from l x h D t clear real false w l x h D t from
+lane-start C bytes from l x h D t clear real w fit due near owed acting asked = record {
+  each = λ v z k.
+      fold-start C (rankOf (restBy l x h D v) t) from bytes clear real w (restBy l x h D v) t refl fit (cleared C clear (restBy l x h D v) t due near owed) acting
+      z k asked;
+}
+
+module _ {C : Chip} {bytes : List ℕ} {from : ℕ} {l₀ : Bool} {x₀ : Debt} {h₀ : List ℕ} {D₀ : Device} {t₀ : Track} where
+  module _ {clear : ℕ} {real stale : Bool} {w : Asks} {l : Bool} {x : Debt} {h : List ℕ} {D : Device} {t : Track} {at : ℕ}
+      (f : Laning C bytes from l₀ x₀ h₀ D₀ t₀ clear real stale w l x h D t at) where
+    abbrev one : Folding C (rankOf (restBy l₀ x₀ h₀ D₀ noVerdict) t₀) from bytes clear real stale w (restBy l x h D noVerdict) t at
+    one = f .each noVerdict refl (omega arith)
+
+    pub lane-base : Standing C 0 bytes at t
+    lane-base = one .base
+
+    pub lane-due : x .due ≤ farEdge
+    lane-due = go (x .sleeps) (one .debt)
+      where
+        go : (y : Bool) → x .due - cond y 0 (t .edge) ≤ farthest → x .due ≤ farEdge
+        go true k = omega (arith, k)
+        go false k = omega (arith, k, one .base .edge, one .base .room)
+
+    pub lane-out : Smoothly C bytes from l₀ x₀ h₀ D₀ t₀ l x h D t at
+    lane-out = record { fit = record { base = one .base; debt = one .debt }; along = λ v z k. f .each v z k .along; later = one .later }
+
+    -- what the registers ask, worked out anew where it is asked for
+    lane-asks : (usual : Bool) (w′ : Asks) → (stale && usual ≡ true → Asked C (regsOf D) w′) → (stale && usual ≡ false → w′ ≡ w)
+        → Laning C bytes from l₀ x₀ h₀ D₀ t₀ clear real (stale && not usual) w′ l x h D t at
+    lane-asks usual w′ anew same = record {
+      each = λ v z k. let g = f .each v z k in record {
+        along = g .along;
+        later = g .later;
+        base = g .base;
+        free = g .free;
+        acting = g .acting;
+        clean = g .clean;
+        broke = g .broke;
+        asked = asks stale usual (g .asked) anew same;
+        debt = g .debt;
+      };
+    }
+      where
+        asks : (a u : Bool) → (a ≡ false → Asked C (regsOf D) w) → (a && u ≡ true → Asked C (regsOf D) w′) → (a && u ≡ false → w′ ≡ w)
+            → a && not u ≡ false → Asked C (regsOf D) w′
+        asks true true g n s e = n refl
+        asks true false g n s e = let u : true ≡ false = e in let k : _≡_ {A = ℕ} 0 1 = cc in absurd (omega arith)
+        asks false u g n s e = subst (Asked C (regsOf D)) (sym (s refl)) (g refl)
+
+    -- where the quick way may go
+    pub lane-stands : (usual : Bool) → Standing C (cond (real && usual) clear 0) bytes at t
+    lane-stands usual = go real usual refl
+      where
+        go : (a u : Bool) → real ≡ a → Standing C (cond (a && u) clear 0) bytes at t
+        go true true e = quick-stands C (rankOf (restBy l₀ x₀ h₀ D₀ noVerdict) t₀) from bytes one e
+        go true false e = one .base
+        go false u e = one .base
+
+    went : (usual : Bool) → (usual ≡ true → l ≡ true) → (usual ≡ true → stale ≡ false) → (t′ : Track) (at′ : ℕ)
+        → Quickly C w (allWritten D) (writtenOf D .dll) (cond (real && usual) clear 0) bytes t at t′ at′
+        → Laning C bytes from l₀ x₀ h₀ D₀ t₀ clear real stale w l x h D t′ at′
+    went usual high fresh t′ at′ q = record { each = λ v z k. go v (f .each v z k) real usual refl refl q }
+      where
+        go : (v : Verdict) → Folding C (rankOf (restBy l₀ x₀ h₀ D₀ v) t₀) from bytes clear real stale w (restBy l x h D v) t at → (a u : Bool) → real ≡ a → usual ≡ u
+            → Quickly C w (allWritten D) (writtenOf D .dll) (cond (a && u) clear 0) bytes t at t′ at′
+            → Folding C (rankOf (restBy l₀ x₀ h₀ D₀ v) t₀) from bytes clear real stale w (restBy l x h D v) t′ at′
+        go v g true true e i q = rw (fresh i) (quick-done C (rankOf (restBy l₀ x₀ h₀ D₀ v) t₀) from bytes g e (high i) w (g .asked (fresh i)) t′ at′ q)
+        go v g true false e i q = quick-still C (rankOf (restBy l₀ x₀ h₀ D₀ v) t₀) from bytes g (allWritten D) (writtenOf D .dll) w t′ at′ q
+        go v g false u e i q = quick-still C (rankOf (restBy l₀ x₀ h₀ D₀ v) t₀) from bytes g (allWritten D) (writtenOf D .dll) w t′ at′ q
+
+  -- what the registers ask worked out anew where that is needed, the quick way went as far as it could; u: the next record is a frequent command
+  pub lane-quick :
+      {clear : ℕ} {real stale : Bool} {w : Asks} {l : Bool} {x : Debt} {h : List ℕ} {D : Device} {t : Track} {at : ℕ}
+      → Laning C bytes from l₀ x₀ h₀ D₀ t₀ clear real stale w l x h D t at → (u : Bool) (w′ : Asks) → (stale && (l && u) ≡ true → Asked C (regsOf D) w′)
+      → (stale && (l && u) ≡ false → w′ ≡ w) → (bound : ℕ) → bound ≡ cond (real && (l && u)) clear 0 → (t′ : Track) (at′ : ℕ)
+      → Quickly C w′ (allWritten D) (writtenOf D .dll) bound bytes t at t′ at′
+      → Laning C bytes from l₀ x₀ h₀ D₀ t₀ clear real (stale && not (l && u)) w′ l x h D t′ at′
+  lane-quick {clear} {real} {stale} {w} {l} {x} {h} {D} {t} {at} f u w′ anew same bound is t′ at′ q =
+      went (lane-asks f (l && u) w′ anew same) (l && u) (λ z. both l u z .0) (fresh stale (l && u)) t′ at′
+      (subst (λ (y : ℕ). Quickly C w′ (allWritten D) (writtenOf D .dll) y bytes t at t′ at′) is q)
+    where
+      fresh : (a u : Bool) → u ≡ true → a && not u ≡ false
+      fresh true true z = refl
+      fresh false u z = refl
+      fresh true false z = let k : _≡_ {A = ℕ} 0 1 = cc in absurd (omega arith)
+
+  module _ {clear : ℕ} {real stale : Bool} {w : Asks} {l : Bool} {x : Debt} {h : List ℕ} {D : Device} {t : Track} {at : ℕ}
+      (f : Laning C bytes from l₀ x₀ h₀ D₀ t₀ clear real stale w l x h D t at) where
+    -- a seldom command that may come
+    module _ (more : at < length bytes) (r : Record) (is : r ≡ recordAt bytes at) (c : Command) (names : c ≡ commandOf l r) (m : Bool)
+        (test : (eqb (r .step) 0 || leb clear (t .edge + r .step)) || not m ≡ false)
+        (may : m ≡ true → MayCome (C .header) c r (t .edge + r .step) (t .floor) (t .banks .actno) (t .banks .shutat) (t .banks .shutno) (t .pre) h (D .at) (D .no) (D .need)) where
+      tests : (eqb (r .step) 0 || leb clear (t .edge + r .step) ≡ false) × (not m ≡ false)
+      tests = neither (eqb (r .step) 0 || leb clear (t .edge + r .step)) (not m) test
+
+      now : (eqb (r .step) 0 ≡ false) × (leb clear (t .edge + r .step) ≡ false)
+      now = neither (eqb (r .step) 0) (leb clear (t .edge + r .step)) (tests .0)
+
+      some : r .step ≡ 0 → ⊥
+      some = eqb-false (r .step) 0 (now .0)
+
+      before : t .edge + r .step < clear
+      before = leb-false clear (t .edge + r .step) (now .1)
+
+      pub lane-seldom :
+          (sa sn h′ : List ℕ) (D′ : Device) (x′ : Debt) (f′ : Floor)
+          → Leaves C c r (t .edge + r .step) (t .count + 1) (t .banks .shutat) (t .banks .shutno) h D x (t .floor) sa sn h′ D′ x′ f′
+          → (k : ℕ) → k ≡ rank c → (clear′ : ℕ)
+          → ((eqb k 1 || eqb k 2) || eqb k 10 ≡ true → Clears (C .most) (t .banks .actat) (t .banks .actno) sa sn (t .edge + r .step) clear′)
+          → ((eqb k 1 || eqb k 2) || eqb k 10 ≡ true → clear′ ≤ t .edge + r .step + C .most + 1) → ((eqb k 1 || eqb k 2) || eqb k 10 ≡ true → Owing x′ clear′)
+          → ((eqb k 1 || eqb k 2) || eqb k 10 ≡ false → clear′ ≡ clear)
+          → Laning C bytes from l₀ x₀ h₀ D₀ t₀ clear′ real (stale || eqb k 0) w (r .cke) x′ h′ D′ (trackAfter t (t .edge + r .step) (t .count + 1) sa sn f′) (at + 6)
+      lane-seldom sa sn h′ D′ x′ f′ left k is-k clear′ due near owed kept = rw is-k (record { each = seldom })
+        where
+          seldom : (v : Verdict) → v .outcome ≡ 0 → v .edge ≤ lastEdge
+              → Folding C (rankOf (restBy l₀ x₀ h₀ D₀ v) t₀) from bytes clear′ real (stale || isA Mrs c) w (restBy (r .cke) x′ h′ D′ v)
+              (trackAfter t (t .edge + r .step) (t .count + 1) sa sn f′) (at + 6)
+          seldom v z u =
+              fold-more C (rankOf (restBy l₀ x₀ h₀ D₀ v) t₀) from bytes g more r is some (restBy (r .cke) x′ h′ D′ v) t′ clear′ (stale || isA Mrs c) w real (step ∙ same) long
+              (free ((eqb k 1 || eqb k 2) || eqb k 10) refl) (λ y b i. omega (arith, g .acting y b i)) z asks
+            where
+              g : Folding C (rankOf (restBy l₀ x₀ h₀ D₀ v) t₀) from bytes clear real stale w (restBy l x h D v) t at
+              g = f .each v z u
+
+              t′ : Track
+              t′ = trackAfter t (t .edge + r .step) (t .count + 1) sa sn f′
+
+              long : Lengths t′
+              long = record {
+                act = g .base .actsize;
+                col = g .base .colsize;
+                pre = g .base .presize;
+                acted = g .base .actedsize;
+                num = g .base .numsize;
+                shut = eight (isA Pre c) (t .banks .shutat) sa (t .edge + r .step) (left .starts) (g .base .shutsize);
+                by = eight (isA Pre c) (t .banks .shutno) sn (t .count + 1) (left .closers) (g .base .bysize);
+                ring = g .base .ringsize;
+              }
+
+              step : stepOf C (rankOf (restBy l x h D v) t) r ≡ rankOf (nextRest C (restBy l x h D v) t r c) (nextTrack C (restBy l x h D v) t r c)
+              step = seldom-step C (restBy l x h D v) t r clear (g .free) z before
+                  (record { act = g .base .actsize; col = g .base .colsize; pre = g .base .presize }) c (sym names) (may (not-false m (tests .1)))
+
+              same : rankOf (nextRest C (restBy l x h D v) t r c) (nextTrack C (restBy l x h D v) t r c) ≡ rankOf (restBy (r .cke) x′ h′ D′ v) t′
+              same = λ i. rankOf (restBy (r .cke) (sym (left .debt) i) (sym (left .held) i) (sym (left .device) i) v)
+                  (trackAfter t (t .edge + r .step) (t .count + 1) (sym (left .starts) i) (sym (left .closers) i) (sym (left .floor) i))
+
+              regs : isA Mrs c ≡ false → regsOf D′ ≡ regsOf D
+              regs m = ap (λ (y : Device). regsOf y) (left .device) ∙ same-regs C c r (t .edge + r .step) (t .count + 1) D m
+
+              asks : stale || isA Mrs c ≡ false → Asked C (regsOf D′) w
+              asks e = let n = neither stale (isA Mrs c) e in subst (λ (G : Regs). Asked C G w) (sym (regs (n .1))) (g .asked (n .0))
+
+              free : (y : Bool) → (eqb k 1 || eqb k 2) || eqb k 10 ≡ y → Clear C clear′ (restBy (r .cke) x′ h′ D′ v) t′
+              free true y = cleared C clear′ (restBy (r .cke) x′ h′ D′ v) t′ (due y) (near y) (owed y)
+              free false y =
+                  let n = neither (eqb k 1 || eqb k 2) (eqb k 10) y in
+                  let none : isA Pre c ≡ false = ap (λ (q : ℕ). eqb q 2) (sym is-k) ∙ neither (eqb k 1) (eqb k 2) (n .0) .1 in
+                  let awake : isA Srx c ≡ false = ap (λ (q : ℕ). eqb q 10) (sym is-k) ∙ n .1 in
+                  rw (kept y) (record {
+                    due = same-soon C (t .banks) (t′ .banks) (t .edge) (t .edge + r .step) clear (omega arith) refl refl (sym (left .starts ∙ rw none))
+                        (sym (left .closers ∙ rw none)) (g .free .due);
+                    near = omega (arith, g .free .near);
+                    owed = subst (λ (q : Debt). Owing q clear) (sym (left .debt)) (kept-owed C c (t .edge + r .step) x clear awake (g .free .owed));
+                  })

@@ -1,0 +1,75 @@
+// The edge before which no deadline passes.
+use crate::numbers::least_of;
+use edges::Debt;
+ghost use mathlib.Core.Path.{_≡_};
+ghost use mathlib.Core.Bool.{true, false};
+ghost use mathlib.Core.Logic.{_⊎_};
+ghost use Prim.Native.Nat.{ℕ, _+_, _≤_, _<_};
+ghost use lib.ListN.{getD};
+ghost use Rattle.running.specs.Ranges.{lastEdge};
+ghost use Rattle.edges.specs.Clearing.{dueBy, Off, Clears, Owing};
+
+// x, or the edge at which the bank comes due if that is after edge and before x.
+fn next_due(a: u64, most: u32, actno: u32, shutno: u32, shutat: u64, edge: u64, x: u64) -> u64
+    requires { ⌜ a ≤ lastEdge ⌝ }
+    ensures { λ r. ⌜ Off edge r (dueBy most a actno shutat shutno) ⌝ }
+    ensures { λ r. ⌜ r ≤ x ⌝ }
+{
+    let last = a + most as u64;
+    if ((shutno < actno) | (last < shutat)) & ((edge <= last) & (last < x)) {
+        return last + 1;
+    }
+    x
+}
+
+pub(crate) fn clear_of(
+    actat: &[u64; 8],
+    actno: &[u32; 8],
+    shutat: &[u64; 8],
+    shutno: &[u32; 8],
+    most: u32,
+    edge: u64,
+    d: Debt,
+) -> u64
+    requires { ⌜ edge ≤ lastEdge ⌝ }
+    requires { ⌜ ((b : ℕ) → b < 8 → getD (now actat) b 0 ≤ lastEdge) ⌝ }
+    ensures { λ r. ⌜ Clears most (now (actat .entry)) (now (actno .entry)) (now (shutat .entry)) (now (shutno .entry)) edge r ⌝ }
+    ensures { λ r. ⌜ r ≤ edge + most + 1 ⌝ }
+    ensures { λ r. ⌜ Owing d r ⌝ }
+{
+    let mut x = edge + most as u64 + 1;
+    let mut b: usize = 0;
+    while b < 8 {
+        x = next_due(actat[b], most, actno[b], shutno[b], shutat[b], edge, x);
+        b += 1;
+    }
+    if d.sleeps {
+        return x;
+    }
+    least_of(x, d.due)
+}
+
+// clear, or worked out anew.
+pub(crate) fn clear_anew(
+    yes: bool,
+    actat: &[u64; 8],
+    actno: &[u32; 8],
+    shutat: &[u64; 8],
+    shutno: &[u32; 8],
+    most: u32,
+    edge: u64,
+    d: Debt,
+    clear: u64,
+) -> u64
+    requires { ⌜ edge ≤ lastEdge ⌝ }
+    requires { ⌜ ((b : ℕ) → b < 8 → getD (now actat) b 0 ≤ lastEdge) ⌝ }
+    ensures { λ r. ⌜ (yes ≡ true → Clears most (now (actat .entry)) (now (actno .entry)) (now (shutat .entry)) (now (shutno .entry)) edge r) ⌝ }
+    ensures { λ r. ⌜ (yes ≡ true → r ≤ edge + most + 1) ⌝ }
+    ensures { λ r. ⌜ (yes ≡ true → Owing d r) ⌝ }
+    ensures { λ r. ⌜ (yes ≡ false → r ≡ clear) ⌝ }
+{
+    if yes {
+        return clear_of(actat, actno, shutat, shutno, most, edge, d);
+    }
+    clear
+}
