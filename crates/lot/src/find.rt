@@ -1,70 +1,74 @@
-// The records of a list: where each stands, and what it says; and how many stand before an edge.
+// The records of a list, each sought by its number in section after section of the files; and how many stand before an edge.
 use crate::text::value;
 use crate::values::listed;
-use tally::Reached;
+use tally::Sought;
+use tally::Spot;
 
-// The numbers of the list, how far the walk has come, and the next record's file and byte there.
+// The number that was listed last, the list's last, and where the walk over the files stands.
 struct Search {
-    from: u64,
+    last: u64,
     to: u64,
-    reached: Reached,
-    file: u64,
-    at: u64,
+    spot: Spot,
 }
 
 pub(crate) fn list(from: u64, to: u64, limit: u64, first: usize, end: usize) {
     let start = Search {
-        from: from,
+        last: number_before(from),
         to: to,
-        reached: Reached::start(limit),
-        file: 0,
-        at: 0,
+        spot: Spot::start(limit),
     };
-    let last = files(start, first, end);
-    value(b"records_before", last.reached.before);
+    let s = files(start, first, end);
+    value(b"records_before", s.spot.reached.before);
+}
+
+// Records count from 1.
+fn number_before(n: u64) -> u64 {
+    if n == 0 {
+        return 0;
+    }
+    n - 1
 }
 
 fn files(start: Search, first: usize, end: usize) -> Search {
     let mut s = start;
     let mut i = first;
     while i < end {
-        s.file = std::num::wrapping_add_u64(s.file, 1);
         s = file(s, i, i == first);
         i += 1;
     }
     s
 }
 
+// A file that cannot be opened has a number and no records.
 fn file(s: Search, i: usize, headed: bool) -> Search {
+    let mut n = s;
+    n.spot = s.spot.begun(headed);
     let mut path = io::buffer();
     let k = os::arg(i, &mut path);
     let fd = os::open_read(&path[..k]);
     if fd < 0 {
-        return s;
+        return n;
     }
-    let mut n = s;
-    n.at = 0;
     if headed {
-        n.at = skipped(fd);
+        skip_header(fd);
     }
     let end = sections(n, fd);
     libc::close(fd);
     end
 }
 
-// The header's bytes.
-fn skipped(fd: i32) -> u64 {
+fn skip_header(fd: i32) {
     let mut header = [0u8; 6];
-    io::read_full(fd, &mut header) as u64
+    io::read_full(fd, &mut header);
 }
 
 fn sections(start: Search, fd: i32) -> Search {
     let mut s = start;
     let mut turns = u64::MAX;
     while turns > 0 {
-        let before = s.at;
+        let before = s.spot.at;
         s = section(s, fd);
-        if s.at == before {
+        if s.spot.at == before {
             return s;
         }
         turns -= 1;
@@ -75,40 +79,31 @@ fn sections(start: Search, fd: i32) -> Search {
 fn section(s: Search, fd: i32) -> Search {
     let mut space = [0u8; 6000];
     let k = io::read_full(fd, &mut space);
-    all(s, &space[..k])
+    let mut n = all(s, &space[..k]);
+    n.spot = s.spot.passed(&space[..k]);
+    n
 }
 
+// Lists what the section has of the numbers that are left.
 fn all(start: Search, bytes: &[u8]) -> Search {
     let mut s = start;
-    let mut at: usize = 0;
-    while 6 <= bytes.len() - at {
-        s = next(
-            s,
-            bytes[at],
-            bytes[at + 1],
-            bytes[at + 2],
-            bytes[at + 3],
-            bytes[at + 4],
-            bytes[at + 5],
-        );
-        at += 6;
+    while s.last < s.to {
+        let n = s.last + 1;
+        if !one(s.spot, n, bytes) {
+            return s;
+        }
+        s.last = n;
     }
     s
 }
 
-// A record more. A file's bytes stay below the judge's limits, so nothing wraps.
-fn next(s: Search, b0: u8, b1: u8, b2: u8, b3: u8, b4: u8, b5: u8) -> Search {
-    let before = s.reached;
-    let f = before.found(records::decode(b0, b1, b2, b3, b4, b5));
-    let reached = f.reached;
-    if (s.from <= reached.number) & (reached.number <= s.to) {
-        listed(f, s.file, s.at, bits::word(b0, b1, b2, b3, b4, b5));
-    }
-    Search {
-        from: s.from,
-        to: s.to,
-        reached: reached,
-        file: s.file,
-        at: std::num::wrapping_add_u64(s.at, 6),
+fn one(spot: Spot, n: u64, bytes: &[u8]) -> bool {
+    let sought = spot.find(n, bytes);
+    match sought {
+        Sought::Here(p) => {
+            listed(p);
+            true
+        }
+        Sought::Elsewhere => false,
     }
 }

@@ -14,6 +14,7 @@ use chip::Chip;
 use glossary::Line;
 use header::Header;
 use tally::Found;
+use tally::Placed;
 use tally::Tally;
 
 pub(crate) fn part(h: Header) {
@@ -167,16 +168,17 @@ fn verdict(v: Verdict) {
 }
 
 // One record of a list: the file that it stands in, its first byte there, and its six bytes as one number.
-pub(crate) fn listed(f: Found, file: u64, at: u64, bytes: u64) {
+pub(crate) fn listed(p: Placed) {
+    let f = p.found;
     value(b"list", f.reached.number);
-    value(b"list_file", file);
-    value(b"list_byte", at);
+    value(b"list_file", p.file);
+    value(b"list_byte", p.at);
     value(b"list_edge", f.reached.edge);
     pins(f);
     let r = f.fields;
     value(b"list_bank", r.bank);
     hex(b"list_address ", r.a as u64, 4);
-    hex(b"list_bytes ", bytes, 12);
+    hex(b"list_bytes ", p.word, 12);
 }
 
 fn pins(f: Found) {

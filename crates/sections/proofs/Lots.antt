@@ -1,8 +1,9 @@
--- A lot: sections in turn through the judge and the tally. Where the judge takes each of them, both speak of one recording, the uncut one, and a
--- walk over its records finds them where looking back does.
+-- A lot: sections in turn through the judge and the tally. Where the judge takes each of them, both speak of one recording, the uncut one, a
+-- walk over its records finds them where looking back does, and the search finds each where it stands in the files.
 -- Assumes nothing.
-use Prim.Native.Nat.{ℕ, _+_, _*_, _/_, _%_, _≤_}
+use Prim.Native.Nat.{ℕ, _+_, _*_, _/_, _%_, _≤_, _<_}
 use native.Mathlib.Omega.{arith}
+use mathlib.Core.Bool.{true}
 use mathlib.Core.List.{List, [], _∷_, _++_, reverseAux}
 use mathlib.Core.Path.{_≡_, refl, sym, ap, _∙_, subst}
 use lib.ListN.{length, length-append}
@@ -28,8 +29,12 @@ use Rattle.tally.specs.declared.Tally.{Tally}
 use Rattle.tally.specs.Tally.{start}
 use Rattle.tally.specs.Counts.{total}
 use Rattle.tally.specs.Walk.{start as begin, reachedOf}
+use Rattle.tally.specs.declared.Sought.the-variants.{Here}
+use Rattle.tally.specs.Places.{startOf, recordsOf, numbered}
 use Rattle.tally.proofs.Walking.{Small, walk, walk-is}
-use Rattle.tally.proofs.Cuts.{run, Tells, sections-tallied, start-stands, Sixes, uncut, uncut-sixes, all-taken}
+use Rattle.tally.proofs.Cuts.{run, Tells, sections-tallied, start-stands, Sixes, uncut-sixes, all-taken}
+use Rattle.tally.specs.Search.{uncut, CutAs, findAll}
+use Rattle.tally.proofs.Files.{search-is, inTurn, records-uncut}
 
 -- the judge takes each section in its turn
 abbrev pub AllTaken : State → List (List ℕ) → Type 0
@@ -88,3 +93,28 @@ lot-is-one header h e xss t = record {
     counted =
         subst (λ bs. Tells bs (run start xss)) (all-taken xss [] start start-stands (all-in .0) (omega (arith, all-in .1)))
         (sections-tallied xss)
+
+-- the records of a lot that the judge takes, in the files as given
+pub record FoundLot (files : List (List ℕ)) (cuts : List (List (List ℕ))) : Type 0 where
+  -- they are those of the uncut recording
+  pub same : recordsOf true files ≡ records (uncut (inTurn cuts))
+  -- and each is found where it stands
+  pub each : length files < 18446744073709551616 → (limit k : ℕ) → k < length (recordsOf true files)
+      → findAll (k + 1) true (startOf limit) cuts ≡ Here (numbered limit files k)
+
+pub lot-is-found :
+    (header : List ℕ) (h : Header) → parsedOf header ≡ Taken h → (files : List (List ℕ)) (cuts : List (List (List ℕ))) → CutAs true files cuts
+    → AllTaken (openOf header .state) (inTurn cuts) → FoundLot files cuts
+lot-is-found header h e files cuts c t = record {
+  same = same;
+  each = λ few limit k l. search-is limit files cuts c most few k l;
+}
+  where
+    all-in : Sixes (inTurn cuts) × ((0 + length (uncut (inTurn cuts))) / 6 ≤ limit) × (judgeTaken (openOf header .state) (inTurn cuts) ≡ uncut (inTurn cuts))
+    all-in = whole h (taken-sound header h e) (inTurn cuts) [] (openOf header .state) (stands header h e []) (omega arith) t
+
+    same : recordsOf true files ≡ records (uncut (inTurn cuts))
+    same = records-uncut true files cuts c (all-in .0)
+
+    most : length (recordsOf true files) ≤ limit
+    most = omega (arith, ap length same, length-records (uncut (inTurn cuts)) (uncut-sixes (inTurn cuts) (all-in .0)), all-in .1)

@@ -14,6 +14,9 @@ use Rattle.tally.specs.declared.Reached.{Reached}
 use Rattle.tally.specs.declared.Found.{Found}
 use Rattle.tally.specs.Walk as found
 use Rattle.tally.specs.Refused.{refusedAt}
+use Rattle.tally.specs.declared.Spot.{Spot}
+use Rattle.tally.specs.declared.Sought.{Sought}
+use Rattle.tally.specs.Places.{startOf, begunOf, words, passedOf, findOf}
 
 pub start-unique : Unique (λ (t : Tally). t ≡ start)
 start-unique = one-answer start
@@ -35,3 +38,15 @@ found-unique s r = one-answer (found.foundOf s r)
 
 pub refused-unique : (refused : ℕ) (bytes : List ℕ) (count : ℕ) → Unique (λ (at : ℕ). at ≡ refusedAt refused bytes count)
 refused-unique n bs count = one-answer (refusedAt n bs count)
+
+pub spot-unique : (limit : ℕ) → Unique (λ (s : Spot). s ≡ startOf limit)
+spot-unique t = one-answer (startOf t)
+
+pub begun-unique : (s : Spot) (headed : Bool) → Unique (λ (n : Spot). n ≡ begunOf s headed)
+begun-unique s headed = one-answer (begunOf s headed)
+
+pub passed-unique : (s : Spot) (bytes : List ℕ) → Unique (λ (n : Spot). n ≡ passedOf s (words bytes))
+passed-unique s bytes = one-answer (passedOf s (words bytes))
+
+pub find-unique : (n : ℕ) (s : Spot) (bytes : List ℕ) → Unique (λ (f : Sought). f ≡ findOf n s (words bytes))
+find-unique n s bytes = one-answer (findOf n s (words bytes))

@@ -22,6 +22,7 @@ use Rattle.tally.specs.Tally.{start, stepOf, foldOf, largest, inRange, t
 use Rattle.tally.specs.Counts.{countOf, seventeen, tallyOf, total}
 use Rattle.tally.proofs.Ranging.{in-range}
 use Rattle.tally.proofs.Seventeen.{kind-below, raised-at, at-seventeen, total-raised, below-total}
+use Rattle.tally.specs.Search.{uncut}
 
 -- ── Records ─────────────────────────────────────────────────────────────────────────────────
 
@@ -178,11 +179,6 @@ cuts-agree xss yss e =
 abbrev pub Sixes : List (List ℕ) → Type 0
 Sixes [] = Unit
 Sixes (xs ∷ xss) = (length xs % 6 ≡ 0) × Sixes xss
-
--- the uncut bytes
-abbrev pub uncut : List (List ℕ) → List ℕ
-uncut [] = []
-uncut (xs ∷ xss) = xs ++ uncut xss
 
 pub uncut-sixes : (xss : List (List ℕ)) → Sixes xss → length (uncut xss) % 6 ≡ 0
 uncut-sixes [] h = refl

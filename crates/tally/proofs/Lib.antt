@@ -4,5 +4,11 @@ pub mod Folds
 pub mod Seventeen
 pub mod Cuts
 pub mod Walking
+pub mod Words
+pub mod Going
+pub mod Placing
+pub mod Seeking
+pub mod Standing
+pub mod Files
 pub mod Zero
 pub mod Answers

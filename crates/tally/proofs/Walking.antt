@@ -26,7 +26,7 @@ small-start : (rs : List Record) (p : Past) → Small (reverseAux rs p) → Smal
 small-start [] p h = h
 small-start (r ∷ rs) p h = small-tail r p (small-start rs (r ∷ p) h)
 
-keeps : (n : ℕ) → n < 18446744073709551616 → wrapped n ≡ n
+pub keeps : (n : ℕ) → n < 18446744073709551616 → wrapped n ≡ n
 keeps n h = omega arith
 
 module _ (t : ℕ) where

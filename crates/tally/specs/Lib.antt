@@ -3,3 +3,5 @@ pub mod Tally
 pub mod Counts
 pub mod Walk
 pub mod Refused
+pub mod Places
+pub mod Search

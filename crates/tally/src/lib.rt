@@ -1,5 +1,6 @@
 // How many records of each command a recording has, carried over its sections as the judge's state is: 01, "Commands and the 25
 // rules", first paragraph. A count's place in the tally is the kind that `kind_of` gives. And where a record stands.
+mod places;
 mod refused;
 mod walk;
 
@@ -46,6 +47,27 @@ pub struct Found {
     pub kind: usize,
     pub down: bool,
     pub fields: Record,
+}
+
+// A walk over a lot's files: how far it has come, the number of the file, and the byte of it that comes next.
+pub struct Spot {
+    pub reached: Reached,
+    pub file: u64,
+    pub at: u64,
+}
+
+// A record, the number of its file, its first byte there, and its six bytes as one number.
+pub struct Placed {
+    pub found: Found,
+    pub file: u64,
+    pub at: u64,
+    pub word: u64,
+}
+
+// What a search for a record comes to, in one section.
+pub enum Sought {
+    Here(Placed),
+    Elsewhere,
 }
 
 impl Tally {

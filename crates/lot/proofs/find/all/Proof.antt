@@ -1,61 +1,27 @@
--- `lot::find::all` is safe and ends: a turn for each record.
+-- `lot::find::all` is safe and ends: a turn for each number that is left.
 -- Assumes nothing.
-use Prim.Native.Nat.{_≤_, _-_}
-use lib.ListN.{length}
+use Prim.Native.Nat.{_-_}
 use borrow.Author.Needs.{needs}
 use Rattle.lot.proofs.find.all.Statement.{statement}
 use Rattle.lot.proofs.find.all.Tie as tie
 
 abbrev Inv-loop : tie.InvT-loop
-Inv-loop bytes s₀ at₀ s at = at ≤ length bytes
+Inv-loop bytes s₀ s = Unit
 
 abbrev μ-loop : tie.MeasureT-loop
-μ-loop bytes s₀ at₀ s at = length bytes - at
+μ-loop bytes s₀ s = s .to - s .last
 
 loop-holds : tie.Need-loop-holds Inv-loop μ-loop
 loop-holds c = search needs
 
-sub-loop : tie.Need-sub-loop Inv-loop μ-loop
-sub-loop c = search needs
+add-n : tie.Need-add-n Inv-loop μ-loop
+add-n c = search needs
 
-shared-slice-read-next : tie.Need-shared-slice-read-next Inv-loop μ-loop
-shared-slice-read-next c = search needs
+one-requires : tie.Need-one-requires Inv-loop μ-loop
+one-requires c κs = search needs
 
-add-next : tie.Need-add-next Inv-loop μ-loop
-add-next c = search needs
-
-shared-slice-read-next-2 : tie.Need-shared-slice-read-next-2 Inv-loop μ-loop
-shared-slice-read-next-2 c = search needs
-
-add-next-2 : tie.Need-add-next-2 Inv-loop μ-loop
-add-next-2 c = search needs
-
-shared-slice-read-next-3 : tie.Need-shared-slice-read-next-3 Inv-loop μ-loop
-shared-slice-read-next-3 c = search needs
-
-add-next-3 : tie.Need-add-next-3 Inv-loop μ-loop
-add-next-3 c = search needs
-
-shared-slice-read-next-4 : tie.Need-shared-slice-read-next-4 Inv-loop μ-loop
-shared-slice-read-next-4 c = search needs
-
-add-next-4 : tie.Need-add-next-4 Inv-loop μ-loop
-add-next-4 c = search needs
-
-shared-slice-read-next-5 : tie.Need-shared-slice-read-next-5 Inv-loop μ-loop
-shared-slice-read-next-5 c = search needs
-
-add-next-5 : tie.Need-add-next-5 Inv-loop μ-loop
-add-next-5 c = search needs
-
-shared-slice-read-next-6 : tie.Need-shared-slice-read-next-6 Inv-loop μ-loop
-shared-slice-read-next-6 c = search needs
-
-next-requires : tie.Need-next-requires Inv-loop μ-loop
-next-requires c κs = search needs
-
-add-at : tie.Need-add-at Inv-loop μ-loop
-add-at c = search needs
+returns : tie.Need-returns Inv-loop μ-loop
+returns c = search needs
 
 loop-less : tie.Need-loop-less Inv-loop μ-loop
 loop-less c = search needs
@@ -63,30 +29,8 @@ loop-less c = search needs
 loop-again : tie.Need-loop-again Inv-loop μ-loop
 loop-again c = search needs
 
-returns : tie.Need-returns Inv-loop μ-loop
-returns c = search needs
+returns-2 : tie.Need-returns-2 Inv-loop μ-loop
+returns-2 c = search needs
 
 pub all-spec : {M : Type 1} → statement M
-all-spec =
-    tie.close
-    (tie.spec
-    Inv-loop
-    μ-loop
-    loop-holds
-    sub-loop
-    shared-slice-read-next
-    add-next
-    shared-slice-read-next-2
-    add-next-2
-    shared-slice-read-next-3
-    add-next-3
-    shared-slice-read-next-4
-    add-next-4
-    shared-slice-read-next-5
-    add-next-5
-    shared-slice-read-next-6
-    next-requires
-    add-at
-    loop-less
-    loop-again
-    returns)
+all-spec = tie.close (tie.spec Inv-loop μ-loop loop-holds add-n one-requires returns loop-less loop-again returns-2)

@@ -14,9 +14,6 @@ abbrev μ-loop : tie.MeasureT-loop
 loop-holds : tie.Need-loop-holds Inv-loop μ-loop
 loop-holds c = search needs
 
-wrapping-add-u64-requires : tie.Need-wrapping-add-u64-requires Inv-loop μ-loop
-wrapping-add-u64-requires c κs = search needs
-
 file-requires : tie.Need-file-requires Inv-loop μ-loop
 file-requires c κs = search needs
 
@@ -33,4 +30,4 @@ returns : tie.Need-returns Inv-loop μ-loop
 returns c = search needs
 
 pub files-spec : {M : Type 1} → statement M
-files-spec = tie.close (tie.spec Inv-loop μ-loop loop-holds wrapping-add-u64-requires file-requires add-i loop-less loop-again returns)
+files-spec = tie.close (tie.spec Inv-loop μ-loop loop-holds file-requires add-i loop-less loop-again returns)
