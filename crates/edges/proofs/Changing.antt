@@ -2,11 +2,11 @@
 -- Assumes nothing.
 use Prim.Native.Nat.{ℕ, _+_}
 use mathlib.Core.Bool.{Bool, true, false, cond}
-use mathlib.Core.Path.{_≡_, refl, ap, _∙_}
+use mathlib.Core.Path.{_≡_, refl}
 use Rattle.laws.specs.Eight.{table}
 use Rattle.records.specs.declared.Record.{Record}
 use Rattle.records.specs.declared.Command.{Command}
-use Rattle.records.specs.declared.Command.the-variants.{Mrs, Ref, Pre, Act, Wr, Rd, Zq, Nop, Des, Sre, Srx, Low, Bad}
+use Rattle.records.specs.declared.Command.the-variants.{Mrs, Ref, Pre, Zq, Nop, Des, Sre, Srx, Low}
 use Rattle.records.specs.Command.{a10}
 use Rattle.chip.specs.declared.Chip.{Chip}
 use Rattle.chip.specs.declared.Regs.{Regs}
@@ -21,7 +21,7 @@ use Rattle.edges.specs.Next.{startOf, banksNext, actsNext, deviceNext, d
 use Rattle.edges.specs.Says.{commandIn}
 use Rattle.edges.specs.Step.{movedOf, regsIn}
 use Rattle.edges.specs.Floors.{settled}
-use Rattle.edges.specs.Ways.{raisedFloor, rdFloor, shutAllFloor, floorNext, holdsNext}
+use Rattle.edges.specs.Ways.{raisedFloor, rdFloor, shutAllFloor, floorNext}
 use Rattle.edges.proofs.Raising.{Raises, waits-under}
 use Rattle.edges.proofs.Ways.{Sized, nop-raises, des-raises, low-raises}
 use Rattle.edges.proofs.Seldom.{holding, ref-raises, zq-raises, srx-raises, mrs-raises, reset-raises, sre-raises, all-raises}

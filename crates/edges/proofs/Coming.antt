@@ -2,10 +2,10 @@
 -- Assumes nothing.
 use Prim.Native.Nat.{ℕ, zero, suc, _+_, _-_, _≤_, _<_, max}
 use native.Mathlib.Omega.{arith}
-use mathlib.Core.Bool.{Bool, true, false, cond}
+use mathlib.Core.Bool.{true, cond}
 use mathlib.Core.List.{List}
 use mathlib.Core.Logic.{_⊎_, inl, inr, ⊎-elim}
-use mathlib.Core.Path.{_≡_, refl, sym, ap, _∙_}
+use mathlib.Core.Path.{_≡_, refl, _∙_}
 use lib.ListN.{getD}
 use borrow.Author.Tests.{eq-eqb}
 use Rattle.laws.specs.Eight.{table}
@@ -16,23 +16,22 @@ use Rattle.records.specs.declared.Command.{Command}
 use Rattle.records.specs.declared.Command.the-variants.{Mrs, Ref, Pre, Act, Wr, Rd, Zq, Nop, Des, Sre, Srx, Low, Bad}
 use Rattle.records.specs.Command.{isA, a10}
 use Rattle.chip.specs.declared.Chip.{Chip}
-use Rattle.edges.specs.declared.Banks.{Banks}
 use Rattle.edges.specs.declared.Waits.{Waits}
 use Rattle.edges.specs.declared.Floor.{Floor}
 use Rattle.edges.specs.declared.Rank.{Rank}
 use Rattle.edges.specs.Asks.{greatest, waitFor}
 use Rattle.edges.specs.Next.{deviceNext, debtNext}
-use Rattle.edges.specs.Says.{brokenIn, saysOf, commandIn}
+use Rattle.edges.specs.Says.{brokenIn, commandIn}
 use Rattle.edges.specs.Step.{movedOf, stepOf}
 use Rattle.edges.specs.Floors.{under, settled}
 use Rattle.edges.specs.Ways.{floorNext, holdsNext}
-use Rattle.edges.specs.Seldom.{AllIdle, Rested, MayCome}
+use Rattle.edges.specs.Seldom.{Rested, MayCome}
 use Rattle.edges.specs.Running.{Track, Rest, heldBy, rankOf}
-use Rattle.edges.specs.Lane.{Clear}
+use Rattle.edges.specs.Lane.{restBy, Clear}
 use Rattle.edges.proofs.Easy.{NoneDue, NotOwed, says-none}
 use Rattle.edges.proofs.Fine.{Idling, all-fine, ref-fine, zq-fine, mrs-fine, sre-fine, srx-fine, nop-fine, des-fine, low-fine}
 use Rattle.edges.proofs.Ways.{Sized}
-use Rattle.edges.proofs.Changing.{Whole, is-ref, is-zq, is-mrs, is-sre, is-srx, is-nop, is-des, is-low, whole-moves, all-moves}
+use Rattle.edges.proofs.Changing.{is-ref, is-zq, is-mrs, is-sre, is-srx, is-nop, is-des, is-low, whole-moves, all-moves}
 
 most-below : (xs : List ℕ) (n e : ℕ) → ((b : ℕ) → b < n → getD xs b 0 ≤ e) → greatest xs n ≤ e
 unfolding greatest
@@ -62,6 +61,33 @@ module _ (f : Floor) (W : Waits) (r : Record) (e : ℕ) where
   unfolding under
   sre-over h l m = omega arith
 
+-- the track after a seldom command
+abbrev pub trackAfter : Track → (e n : ℕ) (shutat shutno : List ℕ) → Floor → Track
+trackAfter t e n sa sn f =
+    record {
+      edge = e;
+      count = n;
+      banks =
+          record {
+            actat = t .banks .actat;
+            actno = t .banks .actno;
+            actneed = t .banks .actneed;
+            row = t .banks .row;
+            colat = t .banks .colat;
+            colno = t .banks .colno;
+            colpre = t .banks .colpre;
+            colturn = t .banks .colturn;
+            colout = t .banks .colout;
+            shutat = sa;
+            shutno = sn;
+          };
+      act = t .act;
+      col = t .col;
+      pre = t .pre;
+      acts = t .acts;
+      floor = f;
+    }
+
 module _ (C : Chip) (d : Rest) (t : Track) (r : Record) where
   abbrev e : ℕ
   e = t .edge + r .step
@@ -75,37 +101,13 @@ module _ (C : Chip) (d : Rest) (t : Track) (r : Record) where
   abbrev f : Floor
   f = t .floor
 
-  -- what is left
+  -- what it leaves behind; a PRE of all banks shuts them
   abbrev pub nextRest : Command → Rest
-  nextRest c =
-      record {
-        first = d .first;
-        level = r .cke;
-        debt = debtNext C c e (d .debt);
-        holds = holdsNext C c r e (d .holds);
-        device = deviceNext C c r e n (d .device);
-      }
-
-  -- a PRE of all banks shuts them
-  abbrev pub nextBanks : Command → Banks
-  nextBanks c =
-      record {
-        actat = t .banks .actat;
-        actno = t .banks .actno;
-        actneed = t .banks .actneed;
-        row = t .banks .row;
-        colat = t .banks .colat;
-        colno = t .banks .colno;
-        colpre = t .banks .colpre;
-        colturn = t .banks .colturn;
-        colout = t .banks .colout;
-        shutat = cond (isA Pre c) (table (λ _. e)) (t .banks .shutat);
-        shutno = cond (isA Pre c) (table (λ _. n)) (t .banks .shutno);
-      }
+  nextRest c = restBy (r .cke) (debtNext C c e (d .debt)) (holdsNext C c r e (d .holds)) (deviceNext C c r e n (d .device)) (d .first)
 
   abbrev pub nextTrack : Command → Track
   nextTrack c =
-      record { edge = e; count = n; banks = nextBanks c; act = t .act; col = t .col; pre = t .pre; acts = t .acts; floor = floorNext C c r e f }
+      trackAfter t e n (cond (isA Pre c) (table (λ _. e)) (t .banks .shutat)) (cond (isA Pre c) (table (λ _. n)) (t .banks .shutno)) (floorNext C c r e f)
 
   module _ (clear : ℕ) (free : Clear C clear d t) (clean : d .first .outcome ≡ 0) (before : e < clear) (size : Sized (s .waits)) where
     none-due : NoneDue C (t .banks) (t .edge) e
@@ -148,7 +150,7 @@ module _ (C : Chip) (d : Rest) (t : Track) (r : Record) where
           first = d .first;
           level = r .cke;
           debt = d .debt;
-          banks = nextBanks Pre;
+          banks = nextTrack Pre .banks;
           waits = s .waits;
           acts = t .acts;
           device = d .device;

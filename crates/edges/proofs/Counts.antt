@@ -1,11 +1,10 @@
 -- After a break the records are only counted.
 -- Assumes nothing.
-use Prim.Native.Nat.{ℕ, _+_, _-_, _*_, _/_, _%_, _≤_, _<_}
+use Prim.Native.Nat.{ℕ, _+_, _-_, _≤_, _<_}
 use native.Mathlib.Omega.{arith}
 use mathlib.Core.Bool.{true, false, cond}
 use mathlib.Core.List.{List}
 use mathlib.Core.Path.{_≡_, refl, sym, ap, _∙_}
-use lib.Dec.{eqb}
 use lib.ListN.{length, drop}
 use borrow.Author.Tests.{eq-eqb, ne-eqb}
 use Rattle.records.specs.declared.Record.{Record}
@@ -15,8 +14,7 @@ use Rattle.running.specs.Ranges.{limit, lastEdge}
 use Rattle.running.proofs.Sections.{at-step, at-end, step-at}
 use Rattle.edges.specs.declared.Rank.{Rank}
 use Rattle.edges.specs.declared.Folded.{Folded}
-use Rattle.edges.specs.Step.{stoppedOf, stepOf, foldOf}
-use Rattle.edges.specs.Running.{Along}
+use Rattle.edges.specs.Step.{stoppedOf, stepOf}
 use Rattle.edges.specs.Folding.{foldedFrom, Counting, Counts}
 use Rattle.edges.proofs.Folding.{along-none, along-also, along-one}
 

@@ -2,14 +2,12 @@
 -- Assumes nothing.
 use Prim.Native.Nat.{ℕ, _+_, _≤_, _<_}
 use native.Mathlib.Omega.{arith}
-use native.Mathlib.Decide.{ℕ-discrete}
 use mathlib.Core.Bool.{Bool, true, false, cond, _&&_, _||_, true≢false}
-use mathlib.Core.List.{List}
 use mathlib.Core.Logic.{_⊎_, inl, inr, ⊎-elim}
-use mathlib.Core.Path.{_≡_, refl, sym, ap, _∙_, subst}
+use mathlib.Core.Path.{_≡_, refl, sym, _∙_, subst}
 use lib.Dec.{eqb, ltb, leb}
-use lib.ListN.{getD, set, length}
-use borrow.Author.Tests.{eqb-true, eq-eqb, ne-eqb, le-ltb, lt-ltb, ltb-true, ltb-false, leb-false}
+use lib.ListN.{getD}
+use borrow.Author.Tests.{le-ltb, lt-ltb, ltb-true, ltb-false, leb-false}
 use Rattle.laws.proofs.Eight.{getD-table}
 use Rattle.chip.specs.declared.Chip.{Chip}
 use Rattle.running.specs.Marks.{needing}
@@ -18,7 +16,6 @@ use Rattle.edges.specs.declared.Banks.{Banks}
 use Rattle.edges.specs.Views.{keptOf}
 use Rattle.edges.specs.Says.{duesOf}
 use Rattle.edges.specs.Clearing.{dueBy, Off}
-use Rattle.edges.proofs.Lists.{getD-set}
 
 pub due-at : (C : Chip) (B : Banks) (b : ℕ) → b < 8
     → getD (duesOf C B) b 0 ≡ dueBy (C .most) (getD (B .actat) b 0) (getD (B .actno) b 0) (getD (B .shutat) b 0) (getD (B .shutno) b 0)

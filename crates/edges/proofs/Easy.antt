@@ -2,23 +2,19 @@
 -- Assumes nothing.
 use Prim.Native.Nat.{ℕ, _+_, _≤_, _<_}
 use native.Mathlib.Omega.{arith}
-use mathlib.Core.Bool.{Bool, true, false, cond, not, _&&_}
+use mathlib.Core.Bool.{Bool, true, false, cond}
 use mathlib.Core.Logic.{_⊎_, inl, inr, ⊎-elim}
-use mathlib.Core.Path.{_≡_, refl, ap, _∙_}
-use lib.Dec.{leb, ltb}
+use mathlib.Core.Path.{_≡_, ap}
 use lib.ListN.{getD}
 use borrow.Author.Tests.{le-ltb, le-leb, lt-leb, ne-eqb}
 use Rattle.answers.specs.declared.Break.{Break}
 use Rattle.answers.specs.declared.Break.the-variants.{Fine}
-use Rattle.answers.specs.declared.Verdict.{Verdict}
 use Rattle.records.specs.declared.Record.{Record}
 use Rattle.records.specs.declared.Command.{Command}
-use Rattle.records.specs.declared.Command.the-variants.{Ref}
-use Rattle.records.specs.Command.{isA}
 use Rattle.chip.specs.declared.Chip.{Chip}
 use Rattle.running.specs.declared.Late.{Late}
 use Rattle.running.specs.declared.Pick.{Pick}
-use Rattle.running.specs.Late.{soonest, sooner, late24, why}
+use Rattle.running.specs.Late.{sooner}
 use Rattle.running.specs.Said.{noVerdict}
 use Rattle.running.proofs.Soonest.{soonest-none}
 use Rattle.edges.specs.declared.Banks.{Banks}

@@ -5,7 +5,7 @@ use native.Mathlib.Omega.{arith}
 use mathlib.Core.Bool.{Bool, true, false, cond, _&&_}
 use mathlib.Core.Logic.{_⊎_, ⊎-elim}
 use mathlib.Core.Path.{_≡_, refl, ap, _∙_}
-use lib.Dec.{eqb, leb, ltb}
+use lib.Dec.{eqb, ltb}
 use lib.ListN.{getD}
 use borrow.Author.Tests.{le-leb, le-ltb, lt-ltb}
 use Rattle.laws.proofs.Eight.{getD-table}
@@ -16,7 +16,7 @@ use Rattle.answers.specs.declared.Break.the-variants.{Fine}
 use Rattle.answers.specs.Answer.{orElse, lowest}
 use Rattle.records.specs.declared.Record.{Record}
 use Rattle.records.specs.declared.Command.{Command}
-use Rattle.records.specs.declared.Command.the-variants.{Mrs, Ref, Pre, Act, Wr, Rd, Zq, Nop, Des, Sre, Srx, Low, Bad}
+use Rattle.records.specs.declared.Command.the-variants.{Mrs, Ref, Pre, Act, Wr, Rd, Zq, Nop, Des, Sre, Srx, Low}
 use Rattle.records.specs.Command.{a10, bankIn}
 use Rattle.registers.specs.Allowed.{allowed}
 use Rattle.chip.specs.declared.Chip.{Chip}

@@ -3,10 +3,10 @@
 use Prim.Native.Nat.{ℕ, _+_, _-_, _*_, _/_, _%_, _≤_, _<_, max}
 use native.Mathlib.Omega.{arith}
 use native.Mathlib.Nat.{max-zero}
-use mathlib.Core.Bool.{Bool, true, false, cond, _&&_}
+use mathlib.Core.Bool.{true, false, cond}
 use mathlib.Core.List.{List, [], _∷_, _++_}
-use mathlib.Core.Logic.{_⊎_, inl, inr, ⊎-elim}
-use mathlib.Core.Path.{_≡_, refl, sym, ap, _∙_, subst}
+use mathlib.Core.Logic.{inr}
+use mathlib.Core.Path.{_≡_, refl, sym, ap, _∙_}
 use lib.Dec.{eqb}
 use lib.ListN.{getD, length, drop}
 use borrow.Author.Tests.{eq-eqb, ne-eqb}
@@ -14,16 +14,13 @@ use Rattle.laws.specs.Eight.{table}
 use Rattle.records.specs.declared.Record.{Record}
 use Rattle.records.specs.Record.{records, recordAt, hasZero}
 use Rattle.chip.specs.declared.Chip.{Chip}
-use Rattle.running.specs.declared.Asks.{Asks}
-use Rattle.running.specs.Ranges.{limit}
+use Rattle.running.specs.Ranges.{limit, lastEdge, Small}
 use Rattle.running.proofs.Sections.{at-step, at-end}
-use Rattle.edges.specs.declared.Waits.{Waits}
-use Rattle.edges.specs.declared.Floor.{Floor}
 use Rattle.edges.specs.declared.Rank.{Rank}
 use Rattle.edges.specs.declared.Folded.{Folded}
 use Rattle.edges.specs.Step.{stepOf, foldOf}
 use Rattle.edges.specs.Floors.{noFloor, under, settled}
-use Rattle.edges.specs.Running.{Track, Rest, heldBy, rankOf, Quiet, Standing, Along, Quickly}
+use Rattle.edges.specs.Running.{Track, rankOf, Standing, Along}
 use Rattle.edges.specs.Lane.{trackIn, restIn}
 use Rattle.edges.specs.Folding.{foldedFrom}
 
@@ -75,17 +72,20 @@ four-is (a ∷ b ∷ []) l = absurd (omega arith)
 four-is (a ∷ b ∷ c ∷ []) l = absurd (omega arith)
 four-is (a ∷ b ∷ c ∷ d ∷ x ∷ xs) l = absurd (omega arith)
 
--- the lengths of a rank's arrays that the loop goes by
+-- the lengths of the arrays that the loop goes by
+pub record Lengths (t : Track) : Type 0 where
+  pub act : length (t .act) ≡ 8
+  pub col : length (t .col) ≡ 16
+  pub pre : length (t .pre) ≡ 8
+  pub acted : length (t .banks .actat) ≡ 8
+  pub num : length (t .banks .actno) ≡ 8
+  pub shut : length (t .banks .shutat) ≡ 8
+  pub by : length (t .banks .shutno) ≡ 8
+  pub ring : length (t .acts .at) ≡ 4
+
 pub record Whole (s : Rank) : Type 0 where
-  pub act : length (s .waits .act) ≡ 8
-  pub col : length (s .waits .col) ≡ 16
-  pub pre : length (s .waits .pre) ≡ 8
+  pub track : Lengths (trackIn s)
   pub holds : length (s .waits .holds) ≡ 4
-  pub acted : length (s .banks .actat) ≡ 8
-  pub num : length (s .banks .actno) ≡ 8
-  pub shut : length (s .banks .shutat) ≡ 8
-  pub by : length (s .banks .shutno) ≡ 8
-  pub ring : length (s .acts .at) ≡ 4
 
 pub no-floor : (s : Rank) → Whole s → settled noFloor s ≡ s
 unfolding settled under
@@ -98,9 +98,9 @@ no-floor s h = λ i. record {
   banks = s .banks;
   waits =
       record {
-        act = eight-is (s .waits .act) (h .act) i;
-        col = sixteen-is (s .waits .col) (h .col) i;
-        pre = eight-is (s .waits .pre) (h .pre) i;
+        act = eight-is (s .waits .act) (h .track .act) i;
+        col = sixteen-is (s .waits .col) (h .track .col) i;
+        pre = eight-is (s .waits .pre) (h .track .pre) i;
         holds = four-is (s .waits .holds) (h .holds) i;
       };
   acts = s .acts;
@@ -108,6 +108,45 @@ no-floor s h = λ i. record {
 }
 
 -- ── A rank taken apart ──────────────────────────────────────────────────────────────────────
+
+-- where the loop stands, with no word of a deadline
+pub stand-at :
+    (C : Chip) (bytes : List ℕ) (at : ℕ) (t : Track) → Small C → at ≤ length bytes → (length bytes - at) % 6 ≡ 0 → t .edge ≤ t .count * 16777216
+    → t .count + (length bytes - at) / 6 ≤ limit → t .acts .turn ≤ 3 → ((b : ℕ) → b < 8 → getD (t .banks .actat) b 0 ≤ lastEdge)
+    → ((i : ℕ) → i < 4 → getD (t .acts .at) i 0 ≤ lastEdge) → Lengths t → Standing C 0 bytes at t
+stand-at C bytes at t small within sixes edge room turn acted ring l = record {
+  small = small;
+  within = within;
+  sixes = sixes;
+  edge = edge;
+  room = room;
+  turn = turn;
+  acted = acted;
+  ring = ring;
+  acting = λ z. absurd (omega arith);
+  due = λ b z. inr (omega arith);
+  soon = omega arith;
+  actsize = l .act;
+  colsize = l .col;
+  presize = l .pre;
+  actedsize = l .acted;
+  numsize = l .num;
+  shutsize = l .shut;
+  bysize = l .by;
+  ringsize = l .ring;
+}
+
+pub stand-sizes : {C : Chip} {clear : ℕ} {bytes : List ℕ} {at : ℕ} {t : Track} → Standing C clear bytes at t → Lengths t
+stand-sizes b = record {
+  act = b .actsize;
+  col = b .colsize;
+  pre = b .presize;
+  acted = b .actedsize;
+  num = b .numsize;
+  shut = b .shutsize;
+  by = b .bysize;
+  ring = b .ringsize;
+}
 
 pub apart : (s : Rank) → Whole s → rankOf (restIn s) (trackIn s) ≡ s
 apart s h = no-floor s h

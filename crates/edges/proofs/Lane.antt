@@ -1,8 +1,8 @@
 -- The turns of the lane, for every rank of its arrays that is not broken.
 -- Assumes nothing.
-use Prim.Native.Nat.{ℕ, _+_, _-_, _*_, _/_, _≤_, _<_}
+use Prim.Native.Nat.{ℕ, _+_, _-_, _*_, _≤_, _<_}
 use native.Mathlib.Omega.{arith}
-use mathlib.Core.Bool.{Bool, true, false, cond, not, _&&_, _||_}
+use mathlib.Core.Bool.{Bool, true, false, cond, not, _&&_, _||_, true≢false}
 use mathlib.Core.List.{List}
 use mathlib.Core.Logic.{_⊎_, inl, inr, ⊎-elim}
 use mathlib.Core.Path.{_≡_, refl, sym, ap, _∙_, subst}
@@ -23,7 +23,6 @@ use Rattle.running.specs.Easy.{Asked}
 use Rattle.running.specs.Said.{noVerdict}
 use Rattle.running.specs.Ranges.{lastEdge, farEdge}
 use Rattle.running.proofs.Both.{both, neither}
-use Rattle.edges.specs.declared.Banks.{Banks}
 use Rattle.edges.specs.declared.Device.{Device}
 use Rattle.edges.specs.declared.Debt.{Debt}
 use Rattle.edges.specs.declared.Floor.{Floor}
@@ -33,12 +32,12 @@ use Rattle.edges.specs.Step.{stepOf}
 use Rattle.edges.specs.Clearing.{Off, Clears, Owing}
 use Rattle.edges.specs.Seldom.{MayCome}
 use Rattle.edges.specs.Ranges.{farthest}
-use Rattle.edges.specs.Running.{Track, Rest, heldBy, rankOf, allWritten, Standing, Quickly}
+use Rattle.edges.specs.Running.{Track, Rest, rankOf, allWritten, Standing, Quickly}
 use Rattle.edges.specs.Lane.{restBy, Fit, Clear, Folding, Laning, Smoothly, Leaves}
 use Rattle.edges.proofs.Dues.{due-at, same-soon}
-use Rattle.edges.proofs.Ways.{Sized}
-use Rattle.edges.proofs.Turns.{Lengths, fold-start, quick-stands, quick-still, quick-done, fold-more}
-use Rattle.edges.proofs.Coming.{nextRest, nextTrack, seldom-step}
+use Rattle.edges.proofs.Folding.{Lengths}
+use Rattle.edges.proofs.Turns.{fold-start, quick-stands, quick-still, quick-done, fold-more}
+use Rattle.edges.proofs.Coming.{trackAfter, nextRest, nextTrack, seldom-step}
 
 pub by-the-codes : {C : Chip} {g G : Regs} {w : Asks} → Asked C g w → g ≡ G → Asked C G w
 by-the-codes {C = C} {w = w} h e = subst (λ (G : Regs). Asked C G w) e h
@@ -75,34 +74,7 @@ kept-owed C c e x clear h o = go (isA Ref c) (isA Sre c) (isA Srx c) h
     go true b d z = ⊎-elim inl (λ y. inr (later (leb (x .due) (counting x e + 16 * C .trefi)) y)) o
     go false true d z = inl refl
     go false false false z = o
-    go false false true z = let u : true ≡ false = z in let n : _≡_ {A = ℕ} 0 1 = cc in absurd (omega arith)
-
--- the track after a seldom command
-abbrev pub trackAfter : Track → (e n : ℕ) (shutat shutno : List ℕ) → Floor → Track
-trackAfter t e n sa sn f =
-    record {
-      edge = e;
-      count = n;
-      banks =
-          record {
-            actat = t .banks .actat;
-            actno = t .banks .actno;
-            actneed = t .banks .actneed;
-            row = t .banks .row;
-            colat = t .banks .colat;
-            colno = t .banks .colno;
-            colpre = t .banks .colpre;
-            colturn = t .banks .colturn;
-            colout = t .banks .colout;
-            shutat = sa;
-            shutno = sn;
-          };
-      act = t .act;
-      col = t .col;
-      pre = t .pre;
-      acts = t .acts;
-      floor = f;
-    }
+    go false false true z = absurd (true≢false z)
 
 -- the beginning
 pub lane-start : (C : Chip) (bytes : List ℕ) (from : ℕ) (l : Bool) (x : Debt) (h : List ℕ) (D : Device) (t : Track) (clear : ℕ) (real : Bool) (w : Asks)
@@ -154,7 +126,7 @@ module _ {C : Chip} {bytes : List ℕ} {from : ℕ} {l₀ : Bool} {x₀ : Debt} 
         asks : (a u : Bool) → (a ≡ false → Asked C (regsOf D) w) → (a && u ≡ true → Asked C (regsOf D) w′) → (a && u ≡ false → w′ ≡ w)
             → a && not u ≡ false → Asked C (regsOf D) w′
         asks true true g n s e = n refl
-        asks true false g n s e = let u : true ≡ false = e in let k : _≡_ {A = ℕ} 0 1 = cc in absurd (omega arith)
+        asks true false g n s e = absurd (true≢false e)
         asks false u g n s e = subst (Asked C (regsOf D)) (sym (s refl)) (g refl)
 
     -- where the quick way may go
@@ -192,7 +164,7 @@ module _ {C : Chip} {bytes : List ℕ} {from : ℕ} {l₀ : Bool} {x₀ : Debt} 
       fresh : (a u : Bool) → u ≡ true → a && not u ≡ false
       fresh true true z = refl
       fresh false u z = refl
-      fresh true false z = let k : _≡_ {A = ℕ} 0 1 = cc in absurd (omega arith)
+      fresh true false z = absurd (true≢false (sym z))
 
   module _ {clear : ℕ} {real stale : Bool} {w : Asks} {l : Bool} {x : Debt} {h : List ℕ} {D : Device} {t : Track} {at : ℕ}
       (f : Laning C bytes from l₀ x₀ h₀ D₀ t₀ clear real stale w l x h D t at) where

@@ -4,20 +4,20 @@ use Prim.Native.Nat.{ℕ, _+_, _-_, _*_, _/_, _%_, _≤_, _<_}
 use native.Mathlib.Omega.{arith}
 use mathlib.Core.Bool.{Bool, true, false, cond, not, _&&_, _||_}
 use mathlib.Core.List.{List}
-use mathlib.Core.Path.{_≡_, refl, sym, ap, _∙_}
+use mathlib.Core.Path.{_≡_, sym, ap, _∙_}
 use lib.Dec.{eqb, leb, ltb}
 use lib.ListN.{getD, set, length}
 use borrow.Author.Tests.{eqb-false, leb-false, ltb-false, not-false, ne-eqb, eq-eqb}
 use Rattle.records.specs.declared.Record.{Record}
 use Rattle.records.specs.Record.{recordAt}
-use Rattle.records.specs.Command.{a10, bankIn}
+use Rattle.records.specs.Command.{bankIn}
 use Rattle.chip.specs.declared.Chip.{Chip}
 use Rattle.running.specs.declared.Asks.{Asks}
 use Rattle.running.proofs.Both.{neither}
 use Rattle.edges.specs.declared.Banks.{Banks}
 use Rattle.edges.specs.declared.Floor.{Floor}
 use Rattle.edges.specs.Ways.{raisedAt, shutFloor, columnFloor, colPre, colTurn, colOut, colStart, fourAt, actFloor, mayColumn, mayPrecharge, mayActivate}
-use Rattle.edges.specs.Running.{Track, Standing, Quickly}
+use Rattle.edges.specs.Running.{Track, Quickly}
 use Rattle.edges.proofs.Quick.{quick-nop, quick-pre, quick-act, quick-column, quick-auto}
 
 -- the first test: no step is 0, no deadline passes, CKE is high, and it is no MRS and no REF

@@ -1,6 +1,6 @@
 -- A clean record of a frequent command, as the loop does it: arrays stored into, one bank and the floor raised.
 -- Assumes nothing.
-use Prim.Native.Nat.{ℕ, _+_, _/_, _%_, max}
+use Prim.Native.Nat.{ℕ, _+_, _/_, _%_}
 use native.Mathlib.Nat.{zero-max}
 use mathlib.Core.Bool.{Bool, true, false, cond, not}
 use mathlib.Core.Path.{_≡_, refl, sym, ap, _∙_}
@@ -19,15 +19,13 @@ use Rattle.running.proofs.Asking.{n4-is, n10-is, n11-is, n13-is, n14-is, n19-is
 use Rattle.edges.specs.declared.Banks.{Banks}
 use Rattle.edges.specs.declared.Waits.{Waits}
 use Rattle.edges.specs.declared.Acts.{Acts}
-use Rattle.edges.specs.declared.Device.{Device}
 use Rattle.edges.specs.declared.Floor.{Floor}
 use Rattle.edges.specs.declared.Rank.{Rank}
-use Rattle.edges.specs.Views.{regsOf}
-use Rattle.edges.specs.Asks.{fourBack, waitsNext}
+use Rattle.edges.specs.Asks.{fourBack}
 use Rattle.edges.specs.Next.{startOf, banksNext, actsNext, deviceNext, debtNext}
 use Rattle.edges.specs.Says.{commandIn}
 use Rattle.edges.specs.Step.{movedOf, regsIn}
-use Rattle.edges.specs.Floors.{under, settled}
+use Rattle.edges.specs.Floors.{settled}
 use Rattle.edges.specs.Ways.{raisedAt, shutFloor, columnFloor, colPre, colTurn, colOut, colStart, fourAt, actFloor}
 use Rattle.edges.proofs.Raising.{Raises, waits-under}
 use Rattle.edges.proofs.Ways.{Sized, nop-raises, des-raises, low-raises, act-raises, rd-raises, wr-raises, rd-auto-raises, wr-auto-raises, pre-raises}

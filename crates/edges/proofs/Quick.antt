@@ -1,6 +1,6 @@
 -- The ways of the quick loop: each takes the loop one record further.
 -- Assumes nothing.
-use Prim.Native.Nat.{ℕ, _+_, _-_, _*_, _/_, _%_, _≤_, _<_, max}
+use Prim.Native.Nat.{ℕ, _+_, _-_, _*_, _/_, _%_, _≤_, _<_}
 use native.Mathlib.Omega.{arith}
 use mathlib.Core.Bool.{Bool, true, false, cond, not, _&&_, _||_}
 use mathlib.Core.List.{List}
@@ -26,7 +26,7 @@ use Rattle.edges.specs.Step.{stepOf}
 use Rattle.edges.specs.Running.{Track, Rest, rankOf, Quiet, Standing, Quickly}
 use Rattle.edges.proofs.Lists.{getD-set}
 use Rattle.edges.proofs.Dues.{due-at, NoneSoon, same-soon, other-soon, open-off, closed-off, now-off, opened-off}
-use Rattle.edges.specs.Clearing.{Off, dueBy}
+use Rattle.edges.specs.Clearing.{Off}
 use Rattle.edges.proofs.Turning.{nop-turn, des-turn, pre-turn, act-turn, rd-turn, rd-auto-turn, wr-turn, wr-auto-turn}
 use Rattle.edges.proofs.Stands.{further, quick-more, last-edge}
 

@@ -1,57 +1,35 @@
 -- From one place of a section to a later one: a lane, a record by the marks, and one after the other.
 -- Assumes nothing.
-use Prim.Native.Nat.{ℕ, _+_, _-_, _*_, _/_, _%_, _≤_, _<_}
+use Prim.Native.Nat.{ℕ, _+_, _-_, _/_, _%_, _≤_, _<_}
 use native.Mathlib.Omega.{arith}
 use mathlib.Core.Bool.{Bool}
 use mathlib.Core.List.{List}
-use mathlib.Core.Logic.{inr}
-use mathlib.Core.Path.{_≡_, refl, sym, ap, _∙_, subst}
-use lib.ListN.{getD, length}
+use mathlib.Core.Path.{_≡_, refl, sym, subst}
+use lib.ListN.{length}
 use Rattle.laws.specs.Eight.{table}
 use Rattle.records.specs.declared.Record.{Record}
 use Rattle.records.specs.Record.{recordAt}
 use Rattle.chip.specs.declared.Chip.{Chip}
-use Rattle.running.specs.Ranges.{limit, lastEdge, Small}
+use Rattle.running.specs.Ranges.{limit, Small}
 use Rattle.edges.specs.declared.Device.{Device}
 use Rattle.edges.specs.declared.Debt.{Debt}
 use Rattle.edges.specs.declared.Rank.{Rank}
-use Rattle.edges.specs.declared.Folded.{Folded}
 use Rattle.edges.specs.Step.{stepOf}
 use Rattle.edges.specs.Floors.{under, settled}
 use Rattle.edges.specs.Ranges.{Ranged, Ready}
-use Rattle.edges.specs.Running.{Track, Rest, rankOf, Standing, Along}
-use Rattle.edges.specs.Lane.{trackIn, restIn, restBy, Fit, Smoothly}
+use Rattle.edges.specs.Running.{Track, rankOf, Along}
+use Rattle.edges.specs.Lane.{trackIn, restBy, Fit, Smoothly}
 use Rattle.edges.specs.Folding.{Reached, Counting}
 use Rattle.edges.proofs.Stands.{whole-record, short-step, one-more}
 use Rattle.edges.proofs.Ranging.{step-goes}
-use Rattle.edges.proofs.Folding.{Whole, apart, along-none, along-also, along-one}
+use Rattle.edges.proofs.Folding.{Lengths, Whole, stand-at, stand-sizes, apart, along-none, along-also, along-one}
 
 module _ (C : Chip) (bytes : List ℕ) where
   -- what a rank needs to go on
   fits : (n : Rank) (at : ℕ) → Small C → Ranged n → Whole n → at ≤ length bytes → (length bytes - at) % 6 ≡ 0 → n .count + (length bytes - at) / 6 ≤ limit
       → Fit C bytes at (n .debt) (trackIn n)
   fits n at small r w within sixes room = record {
-    base = record {
-      small = small;
-      within = within;
-      sixes = sixes;
-      edge = r .edge;
-      room = room;
-      turn = r .turn;
-      acted = r .acted;
-      ring = r .ring;
-      acting = λ z. absurd (omega arith);
-      due = λ b z. inr (omega arith);
-      soon = omega arith;
-      actsize = w .act;
-      colsize = w .col;
-      presize = w .pre;
-      actedsize = w .acted;
-      numsize = w .num;
-      shutsize = w .shut;
-      bysize = w .by;
-      ringsize = w .ring;
-    };
+    base = stand-at C bytes at (trackIn n) small within sixes (r .edge) room (r .turn) (r .acted) (r .ring) (w .track);
     debt = r .debt;
   }
 
@@ -78,21 +56,6 @@ module _ (C : Chip) (bytes : List ℕ) where
     later = omega (arith, f .later, g .later);
   }
 
-  whole : (s : Rank) (from : ℕ) → Reached C bytes s from s from → Whole s
-  whole s from f =
-      let b = f .fit .base in
-      record {
-        act = b .actsize;
-        col = b .colsize;
-        pre = b .presize;
-        holds = f .holds;
-        acted = b .actedsize;
-        num = b .numsize;
-        shut = b .shutsize;
-        by = b .bysize;
-        ring = b .ringsize;
-      }
-
   -- a lane from s on, its arrays put together and the floor put in
   pub reached-lane :
       (s : Rank) (from : ℕ) → Reached C bytes s from s from → (l : Bool) (x : Debt) (h : List ℕ) (D : Device) (t : Track) (at : ℕ)
@@ -102,36 +65,24 @@ module _ (C : Chip) (bytes : List ℕ) where
   reached-lane s from f l x h D t at q =
       let b = q .fit .base in
       record {
-        fit =
-            record {
-              base = record {
-                small = b .small;
-                within = b .within;
-                sixes = b .sixes;
-                edge = b .edge;
-                room = b .room;
-                turn = b .turn;
-                acted = b .acted;
-                ring = b .ring;
-                acting = λ z. absurd (omega arith);
-                due = λ b z. inr (omega arith);
-                soon = omega arith;
-                actsize = refl;
-                colsize = refl;
-                presize = refl;
-                actedsize = b .actedsize;
-                numsize = b .numsize;
-                shutsize = b .shutsize;
-                bysize = b .bysize;
-                ringsize = b .ringsize;
-              };
-              debt = q .fit .debt;
-            };
+        fit = record { base = stand-at C bytes at _ (b .small) (b .within) (b .sixes) (b .edge) (b .room) (b .turn) (b .acted) (b .ring) long; debt = q .fit .debt };
         holds = refl;
         clean = f .clean;
         broke = f .broke;
-        along = subst (λ (n : Rank). Along C bytes n from (rankOf (restBy l x h D (s .first)) t) at) (apart s (whole s from f)) (q .along (s .first) (f .clean) (f .broke));
+        along = subst (λ (n : Rank). Along C bytes n from (rankOf (restBy l x h D (s .first)) t) at) (apart s (record { track = stand-sizes (f .fit .base); holds = f .holds })) (q .along (s .first) (f .clean) (f .broke));
         later = q .later;
+      }
+    where
+      long : Lengths (trackIn (rankOf (restBy l x h D (s .first)) t))
+      long = record {
+        act = refl;
+        col = refl;
+        pre = refl;
+        acted = q .fit .base .actedsize;
+        num = q .fit .base .numsize;
+        shut = q .fit .base .shutsize;
+        by = q .fit .base .bysize;
+        ring = q .fit .base .ringsize;
       }
 
   -- a record by the marks

@@ -1,29 +1,23 @@
 -- A clean record of a seldom command, as the loop does it.
 -- Assumes nothing.
-use Prim.Native.Nat.{ℕ, _+_, _≤_, _<_, max}
+use Prim.Native.Nat.{ℕ, _+_, max}
 use native.Mathlib.Omega.{arith}
 use native.Mathlib.Nat.{zero-max, max-zero, max-comm}
-use mathlib.Core.Bool.{Bool, true, false, cond, _||_, _&&_}
-use mathlib.Core.List.{List, [], _∷_}
-use mathlib.Core.Path.{_≡_, refl, sym, ap, _∙_}
-use mathlib.Core.Logic.{⊎-elim, _⊎_, inl, inr}
+use mathlib.Core.Bool.{Bool, true, false, _||_, _&&_}
+use mathlib.Core.Path.{_≡_, refl, sym}
 use lib.ListN.{getD}
-use Rattle.laws.specs.Eight.{table}
 use Rattle.records.specs.declared.Record.{Record}
 use Rattle.records.specs.declared.Command.{Command}
-use Rattle.records.specs.declared.Command.the-variants.{Mrs, Ref, Pre, Act, Wr, Rd, Zq, Nop, Des, Sre, Srx, Low}
-use Rattle.records.specs.Command.{a10, bankIn}
+use Rattle.records.specs.declared.Command.the-variants.{Mrs, Ref, Pre, Zq, Sre, Srx}
+use Rattle.records.specs.Command.{a10}
 use Rattle.chip.specs.declared.Chip.{Chip}
 use Rattle.chip.specs.declared.Regs.{Regs}
-use Rattle.running.specs.Next.{resetsNow, startNow}
-use Rattle.edges.specs.declared.Banks.{Banks}
+use Rattle.running.specs.Next.{resetsNow}
 use Rattle.edges.specs.declared.Waits.{Waits}
 use Rattle.edges.specs.declared.Floor.{Floor}
-use Rattle.edges.specs.declared.Rank.{Rank}
 use Rattle.edges.specs.Asks.{asksAct, asksRd, asksWr, asksPre, asksRef, asksMrs, asksSre, need18}
 use Rattle.edges.specs.Ways.{raisedFloor, rdFloor, shutAllFloor, heldTo, floorNext, holdsNext}
-use Rattle.edges.proofs.Raising.{raised-all, raised-none, Raised, Raises}
-use Rattle.edges.proofs.Ways.{Sized}
+use Rattle.edges.proofs.Raising.{raised-all, raised-none, Raises}
 
 held-up : (x i y : ℕ) → max (max x i) y ≡ max (max x y) i
 held-up x i y = omega arith

@@ -1,32 +1,26 @@
 -- Where the loop stands after a turn of the quick way.
 -- Assumes nothing.
-use Prim.Native.Nat.{ℕ, _+_, _-_, _*_, _/_, _%_, _≤_, _<_, max}
+use Prim.Native.Nat.{ℕ, _+_, _-_, _≤_, _<_}
 use native.Mathlib.Omega.{arith}
-use mathlib.Core.Bool.{Bool, true, false, cond, _||_}
+use mathlib.Core.Bool.{Bool, true, cond}
 use mathlib.Core.List.{List}
-use mathlib.Core.Logic.{_⊎_, inl, inr, ⊎-elim}
-use mathlib.Core.Path.{_≡_, refl, sym, ap, _∙_, subst}
+use mathlib.Core.Path.{_≡_, sym, ap, _∙_}
 use lib.Dec.{eqb}
-use lib.ListN.{getD, set, length, length-set, drop}
-use borrow.Author.Tests.{eqb-true, ne-eqb, eq-eqb}
+use lib.ListN.{getD, set, length, drop}
+use borrow.Author.Tests.{ne-eqb}
 use Rattle.laws.proofs.Eight.{at-set}
 use Rattle.records.specs.declared.Record.{Record}
 use Rattle.records.specs.Record.{records, recordAt, hasZero}
-use Rattle.records.specs.Command.{bankIn}
 use Rattle.chip.specs.declared.Chip.{Chip}
 use Rattle.running.specs.declared.Asks.{Asks}
-use Rattle.running.specs.Ranges.{limit, lastEdge, farEdge}
-use Rattle.running.proofs.Sections.{at-step, at-end, step-at}
+use Rattle.running.specs.Ranges.{limit, lastEdge}
+use Rattle.running.proofs.Sections.{at-step, step-at}
 use Rattle.edges.specs.declared.Banks.{Banks}
 use Rattle.edges.specs.declared.Acts.{Acts}
 use Rattle.edges.specs.declared.Floor.{Floor}
-use Rattle.edges.specs.declared.Rank.{Rank}
-use Rattle.edges.specs.Says.{duesOf}
 use Rattle.edges.specs.Step.{stepOf, foldOf}
-use Rattle.edges.specs.Running.{Track, Rest, rankOf, Quiet, Standing, Along, Quickly}
-use Rattle.edges.proofs.Lists.{getD-set}
-use Rattle.edges.proofs.Dues.{due-at, NoneSoon, off-later, same-soon, other-soon, open-off, closed-off, now-off, opened-off}
-use Rattle.edges.specs.Clearing.{Off, dueBy}
+use Rattle.edges.specs.Running.{Track, Rest, rankOf, Quiet, Standing, Quickly}
+use Rattle.edges.proofs.Dues.{NoneSoon}
 
 -- ── A list after a store ────────────────────────────────────────────────────────────────────
 

@@ -1,15 +1,14 @@
 -- One turn of the quick way: a frequent command that is found fine where no deadline passes takes one track to the next.
 -- Assumes nothing.
-use Prim.Native.Nat.{ℕ, _+_, _-_, _*_, _/_, _%_, _≤_, _<_, max}
+use Prim.Native.Nat.{ℕ, _+_, _-_, _/_, _%_, _≤_, _<_, max}
 use native.Mathlib.Omega.{arith}
-use mathlib.Core.Bool.{Bool, true, false, cond}
+use mathlib.Core.Bool.{Bool, true, false}
 use mathlib.Core.List.{List}
 use mathlib.Core.Logic.{_⊎_, inl, inr, ⊎-elim}
 use mathlib.Core.Path.{_≡_, refl, sym, ap, _∙_}
-use lib.Dec.{eqb, leb}
-use lib.ListN.{getD, length}
+use lib.Dec.{eqb}
+use lib.ListN.{getD}
 use borrow.Author.Tests.{eq-eqb, ne-eqb}
-use Rattle.laws.specs.Eight.{table}
 use Rattle.laws.proofs.Eight.{getD-table}
 use Rattle.answers.specs.declared.Break.the-variants.{Fine}
 use Rattle.records.specs.declared.Record.{Record}
@@ -23,16 +22,15 @@ use Rattle.edges.specs.declared.Waits.{Waits}
 use Rattle.edges.specs.declared.Acts.{Acts}
 use Rattle.edges.specs.declared.Floor.{Floor}
 use Rattle.edges.specs.declared.Rank.{Rank}
-use Rattle.edges.specs.Views.{regsOf, writtenOf}
 use Rattle.edges.specs.Asks.{waitFor}
-use Rattle.edges.specs.Says.{brokenIn, saysOf, commandIn}
+use Rattle.edges.specs.Says.{brokenIn, commandIn}
 use Rattle.edges.specs.Step.{movedOf, stepOf}
 use Rattle.edges.specs.Floors.{under, settled}
-use Rattle.edges.specs.Ways.{raisedAt, shutFloor, columnFloor, colPre, colTurn, colOut, colStart, fourAt, actFloor}
+use Rattle.edges.specs.Ways.{shutFloor, columnFloor, fourAt, actFloor}
 use Rattle.edges.specs.Running.{Track, Rest, heldBy, rankOf, Quiet, Standing}
 use Rattle.edges.proofs.Lists.{getD-low, getD-high}
 use Rattle.edges.proofs.Easy.{NoneDue, NotOwed, says-none}
-use Rattle.edges.proofs.Fine.{Idling, Opened, act-fine, rd-fine, wr-fine, pre-fine, nop-fine, des-fine}
+use Rattle.edges.proofs.Fine.{act-fine, rd-fine, wr-fine, pre-fine, nop-fine, des-fine}
 use Rattle.edges.proofs.Ways.{Sized}
 use Rattle.edges.proofs.Moving.{after, shutBanks, shutWaits, actBanks, actWaits, actActs, colBanks, colWaits, startBy, nop-moves, des-moves, pre-moves, act-moves, rd-moves, wr-moves, rd-auto-moves, wr-auto-moves}
 

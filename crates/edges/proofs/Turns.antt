@@ -1,8 +1,8 @@
 -- The turns of the loop over a section.
 -- Assumes nothing.
-use Prim.Native.Nat.{ℕ, _+_, _-_, _*_, _/_, _%_, _≤_, _<_, max}
+use Prim.Native.Nat.{ℕ, _+_, _-_, _/_, _%_, _≤_, _<_}
 use native.Mathlib.Omega.{arith}
-use mathlib.Core.Bool.{Bool, true, false, cond, _&&_, _||_}
+use mathlib.Core.Bool.{Bool, true, false, cond}
 use mathlib.Core.List.{List}
 use mathlib.Core.Logic.{_⊎_, inl, inr, ⊎-elim}
 use mathlib.Core.Path.{_≡_, refl, sym, ap, _∙_, subst}
@@ -17,14 +17,14 @@ use Rattle.running.specs.Easy.{Asked}
 use Rattle.running.specs.Ranges.{limit, lastEdge, Small}
 use Rattle.edges.specs.declared.Rank.{Rank}
 use Rattle.edges.specs.Views.{regsOf, writtenOf}
-use Rattle.edges.specs.Step.{stepOf, foldOf}
+use Rattle.edges.specs.Step.{stepOf}
 use Rattle.edges.specs.Floors.{settled}
-use Rattle.edges.specs.Ranges.{Ranged, Ready}
-use Rattle.edges.specs.Running.{Track, Rest, heldBy, rankOf, allWritten, Quiet, Standing, Along, Quickly}
+use Rattle.edges.specs.Ranges.{Ranged}
+use Rattle.edges.specs.Running.{Track, Rest, rankOf, allWritten, Quiet, Standing, Quickly}
 use Rattle.edges.specs.Lane.{Fit, Clear, Folding}
-use Rattle.edges.proofs.Stands.{whole-record, short-step, last-edge, one-more}
+use Rattle.edges.proofs.Stands.{whole-record, short-step, one-more}
 use Rattle.edges.proofs.Ranging.{step-goes}
-use Rattle.edges.proofs.Folding.{along-none, along-also, along-one}
+use Rattle.edges.proofs.Folding.{Lengths, stand-at, stand-sizes, along-none, along-also, along-one}
 
 lt-or-le : (a b : ℕ) → (a < b) ⊎ (b ≤ a)
 lt-or-le a b = go (ltb a b) refl
@@ -32,17 +32,6 @@ lt-or-le a b = go (ltb a b) refl
     go : (x : Bool) → ltb a b ≡ x → (a < b) ⊎ (b ≤ a)
     go true e = inl (ltb-true a b e)
     go false e = inr (ltb-false a b e)
-
--- the lengths of a track's arrays
-pub record Lengths (t : Track) : Type 0 where
-  pub act : length (t .act) ≡ 8
-  pub col : length (t .col) ≡ 16
-  pub pre : length (t .pre) ≡ 8
-  pub acted : length (t .banks .actat) ≡ 8
-  pub num : length (t .banks .actno) ≡ 8
-  pub shut : length (t .banks .shutat) ≡ 8
-  pub by : length (t .banks .shutno) ≡ 8
-  pub ring : length (t .acts .at) ≡ 4
 
 module _ (C : Chip) (s : Rank) (from : ℕ) (bytes : List ℕ) where
   -- ranges of the rank from those of the track, and back
@@ -62,27 +51,7 @@ module _ (C : Chip) (s : Rank) (from : ℕ) (bytes : List ℕ) where
       (d : Rest) (t : Track) (at : ℕ) → Small C → at ≤ length bytes → (length bytes - at) % 6 ≡ 0 → t .count + (length bytes - at) / 6 ≤ limit
       → Ranged (rankOf d t) → Lengths t → Standing C 0 bytes at t
   unfolding settled
-  stand-by d t at small within sixes room r l = record {
-    small = small;
-    within = within;
-    sixes = sixes;
-    edge = r .edge;
-    room = room;
-    turn = r .turn;
-    acted = r .acted;
-    ring = r .ring;
-    acting = λ z. absurd (omega arith);
-    due = λ b z. inr (omega arith);
-    soon = omega arith;
-    actsize = l .act;
-    colsize = l .col;
-    presize = l .pre;
-    actedsize = l .acted;
-    numsize = l .num;
-    shutsize = l .shut;
-    bysize = l .by;
-    ringsize = l .ring;
-  }
+  stand-by d t at small within sixes room r l = stand-at C bytes at t small within sixes (r .edge) room (r .turn) (r .acted) (r .ring) l
 
   -- the beginning
   pub fold-start : (clear : ℕ) (real : Bool) (w : Asks) (d : Rest) (t : Track) → s ≡ rankOf d t → Fit C bytes from (d .debt) t → Clear C clear d t
@@ -137,27 +106,7 @@ module _ (C : Chip) (s : Rank) (from : ℕ) (bytes : List ℕ) where
     quick-done y high v asked t′ at′ q = record {
       along = along-also C bytes (f .along) (q .along d quiet);
       later = omega (arith, f .later, q .later);
-      base = record {
-        small = st .small;
-        within = st .within;
-        sixes = st .sixes;
-        edge = st .edge;
-        room = st .room;
-        turn = st .turn;
-        acted = st .acted;
-        ring = st .ring;
-        acting = λ z. absurd (omega arith);
-        due = λ b z. inr (omega arith);
-        soon = omega arith;
-        actsize = st .actsize;
-        colsize = st .colsize;
-        presize = st .presize;
-        actedsize = st .actedsize;
-        numsize = st .numsize;
-        shutsize = st .shutsize;
-        bysize = st .bysize;
-        ringsize = st .ringsize;
-      };
+      base = stand-at C bytes at′ t′ (st .small) (st .within) (st .sixes) (st .edge) (st .room) (st .turn) (st .acted) (st .ring) (stand-sizes st);
       free = record { due = st .due; near = st .soon; owed = f .free .owed };
       acting = λ _. acts;
       clean = f .clean;

@@ -1,7 +1,7 @@
 -- The floor: what was asked of every bank since the section began. The loop raises it instead of eight numbers.
 -- Assumes nothing.
-use Prim.Native.Nat.{ℕ, _+_, max}
-use mathlib.Core.List.{List, [], _∷_, _++_}
+use Prim.Native.Nat.{_+_, max}
+use mathlib.Core.List.{[], _∷_, _++_}
 use lib.ListN.{getD}
 use Rattle.laws.specs.Eight.{table}
 use Rattle.edges.specs.declared.Waits.{Waits}

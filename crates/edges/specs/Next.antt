@@ -1,15 +1,15 @@
 -- How a record changes what is kept. c is its command, r the record, e its edge, n its number, g the registers in force at it.
 -- Assumes nothing.
 use Prim.Native.Nat.{ℕ, _+_, _-_, _*_, _%_}
-use mathlib.Core.Bool.{Bool, true, false, cond, _&&_, _||_}
+use mathlib.Core.Bool.{Bool, true, false, cond, _||_}
 use mathlib.Core.List.{List}
-use lib.Dec.{eqb, leb}
+use lib.Dec.{leb}
 use lib.ListN.{getD, set}
 use Rattle.laws.specs.Eight.{table}
 use Rattle.records.specs.declared.Record.{Record}
 use Rattle.records.specs.declared.Command.{Command}
-use Rattle.records.specs.declared.Command.the-variants.{Mrs, Ref, Pre, Act, Wr, Rd, Zq, Sre, Srx}
-use Rattle.records.specs.Command.{isA, a10, bankIn}
+use Rattle.records.specs.declared.Command.the-variants.{Mrs, Ref, Act, Wr, Rd, Zq, Sre, Srx}
+use Rattle.records.specs.Command.{isA, bankIn}
 use Rattle.chip.specs.declared.Chip.{Chip}
 use Rattle.chip.specs.declared.Regs.{Regs}
 use Rattle.running.specs.Next.{need4, need10, need11, resetsNow, shutsNow, startNow, preAll}

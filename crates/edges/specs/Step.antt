@@ -1,6 +1,6 @@
 -- A record's effect on the rank, and the verdict so far.
 -- Assumes nothing.
-use Prim.Native.Nat.{ℕ, _+_}
+use Prim.Native.Nat.{_+_}
 use mathlib.Core.Bool.{cond}
 use mathlib.Core.List.{List, [], _∷_}
 use Rattle.answers.specs.declared.Verdict.{Verdict}

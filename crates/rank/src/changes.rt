@@ -1,4 +1,5 @@
 // What a seldom command that may come leaves behind.
+use crate::asked::need18;
 use crate::seldom::all_shut;
 use crate::seldom::held_to;
 use crate::seldom::raised;
@@ -15,18 +16,7 @@ ghost use Rattle.running.specs.Next.{resetsNow};
 ghost use Rattle.chip.specs.declared.Chip.{Chip};
 ghost use Rattle.records.specs.declared.Record.{Record};
 ghost use Rattle.running.specs.Ranges.{farEdge};
-ghost use Rattle.edges.specs.Asks.{need18};
 ghost use Rattle.edges.specs.Ways as ways;
-
-// The time of a ZQ, long or short.
-fn tuning(chip: Chip, r: Record) -> u32
-    ensures { λ x. ⌜ x ≡ need18 chip r ⌝ }
-{
-    if r.a / 1024 % 2 == 1 {
-        return chip.zqlong;
-    }
-    chip.zqshort
-}
 
 // Does an MRS reset the DLL?
 pub(crate) fn resets(r: Record) -> bool
@@ -46,7 +36,7 @@ pub(crate) fn asked_by(chip: Chip, c: Command, r: Record) -> u32
         Command::Act => 0,
         Command::Wr => 0,
         Command::Rd => 0,
-        Command::Zq => tuning(chip, r),
+        Command::Zq => need18(chip, r),
         Command::Nop => 0,
         Command::Des => 0,
         Command::Sre => 0,

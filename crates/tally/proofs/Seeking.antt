@@ -10,10 +10,10 @@ use lib.ListN.{length}
 use Rattle.records.specs.Record.{fieldsOf}
 use Rattle.tally.specs.declared.Spot.{Spot}
 use Rattle.tally.specs.declared.Sought.{Sought}
-use Rattle.tally.specs.declared.Sought.the-variants.{Here, Elsewhere}
+use Rattle.tally.specs.declared.Sought.the-variants.{Here}
 use Rattle.tally.specs.Walk.{wrapped}
-use Rattle.tally.specs.Places.{words, begunOf, afterOf, passedOf, placedOf, findOf, bodyOf}
-use Rattle.tally.specs.Search.{uncut, first, passIn, findIn, Between, findAll, Cut, CutAs}
+use Rattle.tally.specs.Places.{words, afterOf, passedOf, placedOf, findOf, bodyOf}
+use Rattle.tally.specs.Search.{uncut, first, passIn, findIn, Between, Cut}
 use Rattle.tally.proofs.Words.{words-append}
 
 -- ── Sections in turn ────────────────────────────────────────────────────────────────────────

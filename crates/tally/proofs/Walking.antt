@@ -1,18 +1,16 @@
 -- A walk over the records knows of each what looking back over the recording says, as long as no number passes 64 bits.
 -- Assumes nothing.
-use Prim.Native.Nat.{ℕ, _+_, _*_, _%_, _≤_, _<_}
+use Prim.Native.Nat.{ℕ, _+_, _<_}
 use native.Mathlib.Omega.{arith}
 use mathlib.Core.Bool.{Bool, true, false, cond}
-use mathlib.Core.List.{List, [], _∷_, reverse, reverseAux}
-use mathlib.Core.Path.{_≡_, refl, ap, _∙_}
+use mathlib.Core.List.{List, [], _∷_, reverseAux}
+use mathlib.Core.Path.{_≡_, refl, ap}
 use lib.Dec.{ltb}
-use lib.ListN.{length}
 use Rattle.records.specs.declared.Record.{Record}
-use Rattle.rules.specs.Past.{Past, number, edge, cke, latest}
+use Rattle.rules.specs.Past.{Past, number, edge, latest}
 use Rattle.tally.specs.declared.Reached.{Reached}
-use Rattle.tally.specs.declared.Found.{Found}
 use Rattle.tally.specs.Kinds.{kindAt}
-use Rattle.tally.specs.Walk.{start, wrapped, reachedAt, nextOf, foundOf, reachedOf, eventOf}
+use Rattle.tally.specs.Walk.{start, wrapped, nextOf, foundOf, reachedOf, eventOf}
 
 -- no number of the recording p passes 64 bits
 pub record Small (p : Past) : Type 0 where

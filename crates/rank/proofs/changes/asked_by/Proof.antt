@@ -3,7 +3,6 @@ use Rattle.rank.proofs.changes.asked_by.Statement.{statement}
 use Rattle.rank.proofs.changes.asked_by.Tie as tie
 use Rattle.rank.proofs.changes.asked_by.Reads as reads
 use Rattle.rank.proofs.changes.asked_by.Lts as lts
-use Rattle.rank.proofs.changes.tuning.Reads as tuning-reads
 
 enum-told : tie.Need-enum-told
 enum-told c = search needs
@@ -26,8 +25,8 @@ enum-told-6 c = search needs
 enum-told-7 : tie.Need-enum-told-7
 enum-told-7 c = search needs
 
-tuning-requires : tie.Need-tuning-requires
-tuning-requires c κs = search needs
+need18-requires : tie.Need-need18-requires
+need18-requires c κs = search needs
 
 enum-told-8 : tie.Need-enum-told-8
 enum-told-8 c = search needs
@@ -66,7 +65,7 @@ returns-6 : tie.Need-returns-6
 returns-6 c = rw (c .enum-told6 .given .1)
 
 returns-7 : tie.Need-returns-7
-returns-7 c = rw (c .before .enum-told7 .given .1) (c .tuning .ensures)
+returns-7 c = rw (c .before .enum-told7 .given .1) (c .need18 .ensures)
 
 returns-8 : tie.Need-returns-8
 returns-8 c = rw (c .enum-told8 .given .1)
@@ -97,7 +96,7 @@ asked-by-spec =
     enum-told-5
     enum-told-6
     enum-told-7
-    tuning-requires
+    need18-requires
     enum-told-8
     enum-told-9
     enum-told-10

@@ -15,15 +15,17 @@ run-on-requires c κs =
     let p2 = c .before .before in let banks = p2 .good .1 .0 .1 .1 .1 .1 .1 .1 .1 .0 in let waits = p2 .good .1 .0 .1 .1 .1 .1 .1 .1 .1 .1 .0 in
     let acts = p2 .good .1 .0 .1 .1 .1 .1 .1 .1 .1 .1 .1 .0 in
     let whole : Whole (p2 .args .s) = record {
-      act = search (needs, waits .1 .1 .0);
-      col = search (needs, waits .1 .1 .1 .0);
-      pre = search (needs, waits .1 .1 .1 .1 .0);
+      track = record {
+        act = search (needs, waits .1 .1 .0);
+        col = search (needs, waits .1 .1 .1 .0);
+        pre = search (needs, waits .1 .1 .1 .1 .0);
+        acted = search (needs, banks .1 .1 .0);
+        num = search (needs, banks .1 .1 .1 .0);
+        shut = search (needs, banks .1 .1 .1 .1 .1 .1 .1 .1 .1 .1 .1 .0);
+        by = search (needs, banks .1 .1 .1 .1 .1 .1 .1 .1 .1 .1 .1 .1 .0);
+        ring = search (needs, acts .1 .1 .0);
+      };
       holds = search (needs, waits .1 .1 .1 .1 .1 .0);
-      acted = search (needs, banks .1 .1 .0);
-      num = search (needs, banks .1 .1 .1 .0);
-      shut = search (needs, banks .1 .1 .1 .1 .1 .1 .1 .1 .1 .1 .1 .0);
-      by = search (needs, banks .1 .1 .1 .1 .1 .1 .1 .1 .1 .1 .1 .1 .0);
-      ring = search (needs, acts .1 .1 .0);
     } in
     reached-start _ _ _ (p2 .pre) whole (c .if1 .left)
 

@@ -68,15 +68,17 @@ run-on-requires c κs =
     let p1 = c .before in let p2 = p1 .before in let p4 = p2 .before .before in let p5 = p4 .before in let p6 = p5 .before in let banks = p1 .step .ok .1 .1 .1 .1 .1 .1 .1 .0 in
     let waits = p1 .step .ok .1 .1 .1 .1 .1 .1 .1 .1 .0 in let acts = p1 .step .ok .1 .1 .1 .1 .1 .1 .1 .1 .1 .0 in
     let whole : Whole (p1 .step .result) = record {
-      act = search (needs, waits .1 .1 .0);
-      col = search (needs, waits .1 .1 .1 .0);
-      pre = search (needs, waits .1 .1 .1 .1 .0);
+      track = record {
+        act = search (needs, waits .1 .1 .0);
+        col = search (needs, waits .1 .1 .1 .0);
+        pre = search (needs, waits .1 .1 .1 .1 .0);
+        acted = search (needs, banks .1 .1 .0);
+        num = search (needs, banks .1 .1 .1 .0);
+        shut = search (needs, banks .1 .1 .1 .1 .1 .1 .1 .1 .1 .1 .1 .0);
+        by = search (needs, banks .1 .1 .1 .1 .1 .1 .1 .1 .1 .1 .1 .1 .0);
+        ring = search (needs, acts .1 .1 .0);
+      };
       holds = search (needs, waits .1 .1 .1 .1 .1 .0);
-      acted = search (needs, banks .1 .1 .0);
-      num = search (needs, banks .1 .1 .1 .0);
-      shut = search (needs, banks .1 .1 .1 .1 .1 .1 .1 .1 .1 .1 .1 .0);
-      by = search (needs, banks .1 .1 .1 .1 .1 .1 .1 .1 .1 .1 .1 .1 .0);
-      ring = search (needs, acts .1 .1 .0);
     } in
     reached-self _ _ _ _ _ _ (step-reached _ _ _ _ _ _ (p6 .loop .inv) (p5 .loop-test .taken) (p4 .record-at .result) (p4 .record-at .ensures) (p2 .if1 .left) (p1 .step .result)
     (p1 .step .ensures) (c .if2 .left) whole)
@@ -91,15 +93,17 @@ loop-again c =
     let p1 = c .before in let p2 = p1 .before in let p3 = p2 .before in let p4 = p3 .before in let p6 = p4 .before .before in let p7 = p6 .before in let p8 = p7 .before in
     let banks = p3 .step .ok .1 .1 .1 .1 .1 .1 .1 .0 in let waits = p3 .step .ok .1 .1 .1 .1 .1 .1 .1 .1 .0 in let acts = p3 .step .ok .1 .1 .1 .1 .1 .1 .1 .1 .1 .0 in
     let whole : Whole (p3 .step .result) = record {
-      act = search (needs, waits .1 .1 .0);
-      col = search (needs, waits .1 .1 .1 .0);
-      pre = search (needs, waits .1 .1 .1 .1 .0);
+      track = record {
+        act = search (needs, waits .1 .1 .0);
+        col = search (needs, waits .1 .1 .1 .0);
+        pre = search (needs, waits .1 .1 .1 .1 .0);
+        acted = search (needs, banks .1 .1 .0);
+        num = search (needs, banks .1 .1 .1 .0);
+        shut = search (needs, banks .1 .1 .1 .1 .1 .1 .1 .1 .1 .1 .1 .0);
+        by = search (needs, banks .1 .1 .1 .1 .1 .1 .1 .1 .1 .1 .1 .1 .0);
+        ring = search (needs, acts .1 .1 .0);
+      };
       holds = search (needs, waits .1 .1 .1 .1 .1 .0);
-      acted = search (needs, banks .1 .1 .0);
-      num = search (needs, banks .1 .1 .1 .0);
-      shut = search (needs, banks .1 .1 .1 .1 .1 .1 .1 .1 .1 .1 .1 .0);
-      by = search (needs, banks .1 .1 .1 .1 .1 .1 .1 .1 .1 .1 .1 .1 .0);
-      ring = search (needs, acts .1 .1 .0);
     } in
     reached-also _ _ _ _ _ _ _ _ (step-reached _ _ _ _ _ _ (p8 .loop .inv) (p7 .loop-test .taken) (p6 .record-at .result) (p6 .record-at .ensures) (p4 .if1 .left) (p3 .step .result)
     (p3 .step .ensures) (p2 .if2 .left) whole) (p1 .run-on .ensures)
