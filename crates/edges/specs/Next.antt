@@ -8,7 +8,7 @@ use lib.ListN.{getD, set}
 use Rattle.laws.specs.Eight.{table}
 use Rattle.records.specs.declared.Record.{Record}
 use Rattle.records.specs.declared.Command.{Command}
-use Rattle.records.specs.declared.Command.the-variants.{Mrs, Ref, Act, Wr, Rd, Zq, Sre, Srx}
+use Rattle.records.specs.declared.Command.the-variants.{Mrs, Ref, Pre, Act, Wr, Rd, Zq, Sre, Srx}
 use Rattle.records.specs.Command.{isA, bankIn}
 use Rattle.chip.specs.declared.Chip.{Chip}
 use Rattle.chip.specs.declared.Regs.{Regs}
