@@ -9,9 +9,9 @@ use borrow.Author.Tests.{lt-ltb, le-ltb}
 use Rattle.laws.proofs.Lent.{refuses, writes, refused-keeps-all, later-bytes-kept, same-answer}
 use Rattle.laws.proofs.Unique.{Unique, one-answer}
 use Rattle.answers.specs.declared.Bank.{Bank}
-use Rattle.answers.specs.declared.Shown.{Shown}
 use Rattle.answers.specs.declared.Verdict.{Verdict}
 use Rattle.answers.specs.Answer.{verdictBytes, shownOf, Reported}
+use Rattle.answers.specs.Contracts.{Show, VerdictBytes}
 
 pub twenty : (v : Verdict) → length (verdictBytes v) ≡ 20
 unfolding verdictBytes
@@ -37,8 +37,8 @@ pub report-unique :
     → (r ≡ r′) × (after ≡ after′)
 report-unique v one other = same-answer one other
 
-pub bytes-unique : (v : Verdict) → Unique (λ (r : List ℕ). r ≡ verdictBytes v)
+pub bytes-unique : (v : Verdict) → Unique (VerdictBytes v)
 bytes-unique v = one-answer (verdictBytes v)
 
-pub show-unique : (b : Bank) → Unique (λ (r : Shown). r ≡ shownOf b)
+pub show-unique : (b : Bank) → Unique (Show b)
 show-unique b = one-answer (shownOf b)

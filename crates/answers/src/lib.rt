@@ -56,7 +56,7 @@ pub struct End {
 
 // The bank as it is answered.
 pub fn show(b: Bank) -> Shown
-    ensures { λ r. ⌜ r ≡ shownOf b ⌝ }
+    ensures { λ r. ⌜ Show b r ⌝ }
 {
     match b {
         Bank::Idle => Shown {
@@ -77,5 +77,4 @@ pub fn show(b: Bank) -> Shown
     }
 }
 
-ghost use mathlib.Core.Path.{_≡_};
-ghost use Rattle.answers.specs.Answer.{shownOf};
+ghost use Rattle.answers.specs.Contracts.{Show};

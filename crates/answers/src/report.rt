@@ -1,7 +1,7 @@
 // The 20 bytes of a verdict.
 use crate::Verdict;
-ghost use mathlib.Core.Path.{_≡_};
-ghost use Rattle.answers.specs.Answer.{verdictBytes, Reported};
+ghost use Rattle.answers.specs.Answer.{Reported};
+ghost use Rattle.answers.specs.Contracts.{VerdictBytes};
 
 // Check 9; then the 20 bytes into the lent slice. Later bytes keep their values; a refusal writes nothing.
 pub fn put_verdict(v: Verdict, out: &mut [u8]) -> u32
@@ -16,7 +16,7 @@ pub fn put_verdict(v: Verdict, out: &mut [u8]) -> u32
 }
 
 pub fn verdict_bytes(v: Verdict) -> [u8; 20]
-    ensures { λ r. ⌜ r ≡ verdictBytes v ⌝ }
+    ensures { λ r. ⌜ VerdictBytes v r ⌝ }
 {
     [
         (v.outcome % 256) as u8,

@@ -1,4 +1,4 @@
--- What a call answers, by the way that it takes through the code.
+-- What a call answers, by the way that it takes through the code; and one answer for each call.
 -- Assumes nothing.
 use Prim.Native.Nat.{ℕ, zero, suc, _%_, _<_, _≤_}
 use native.Mathlib.Omega.{arith}
@@ -9,7 +9,7 @@ use borrow.Author.Tests.{lt-ltb, le-ltb, ne-eqb}
 use lib.Bits.{bitXor, xor-lt}
 use lib.Dec.{ltb}
 use lib.ListN.{length, take, drop}
-use Rattle.laws.proofs.Lent.{refuses, writes}
+use Rattle.laws.proofs.Lent.{refuses, writes, same-answer}
 use Rattle.bursts.specs.Burst.{wordOf, wordsFrom, orderOf, gives10, codeOf, Ordered}
 use Rattle.bursts.specs.Parts.{Put}
 
@@ -54,3 +54,8 @@ module _ (n start kind direction : ℕ) (before : List ℕ) where
       let all : words ≡ orderOf m start kind direction = e ∙ rw i in
       let fits : length words ≡ m = ap length all ∙ length-order m start kind direction in
       rw (i, known ∙ le-ltb 7 start h, ← all, ← fits) p
+
+pub order-unique :
+    (n start kind direction : ℕ) {before after after′ : List ℕ} {r r′ : ℕ} → Ordered n start kind direction before r after
+    → Ordered n start kind direction before r′ after′ → (r ≡ r′) × (after ≡ after′)
+order-unique n start kind direction one other = same-answer one other

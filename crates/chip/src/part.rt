@@ -4,10 +4,10 @@ use header::Header;
 use units::Clocks;
 ghost use mathlib.Core.Path.{_≡_};
 ghost use Prim.Native.Nat.{_≤_};
-ghost use Rattle.chip.specs.Chip.{chipOf};
+ghost use Rattle.chip.specs.Contracts.{ChipOf};
 
 pub fn chip_of(h: Header) -> Chip
-    ensures { λ r. ⌜ r ≡ chipOf h ⌝ }
+    ensures { λ r. ⌜ ChipOf h r ⌝ }
 {
     Chip {
         header: h,

@@ -6,6 +6,7 @@ use table::ROWS;
 ghost use mathlib.Core.Path.{_≡_};
 ghost use Prim.Native.Nat.{_<_};
 ghost use Rattle.glossary.specs.Glossary as defs;
+ghost use Rattle.glossary.specs.Contracts.{RowAt, RowOf, LineAt};
 
 // A kind of the tally and its name; the levels of CKE before and now, CS, RAS, CAS, WE and A10: 0 low, 1 high, 2 any; what it means.
 pub struct Row {
@@ -24,7 +25,7 @@ pub struct Line {
 
 // The row at a place, counted from 0; behind the last place, 23, the last row.
 pub fn row_at(place: usize) -> Row
-    ensures { λ r. ⌜ r ≡ defs.rowOf place ⌝ }
+    ensures { λ r. ⌜ RowAt place r ⌝ }
 {
     let at = within(place);
     ROWS[at]
@@ -32,14 +33,14 @@ pub fn row_at(place: usize) -> Row
 
 // The first row of a kind; above the last kind, the last row.
 pub fn row_of(kind: u64) -> Row
-    ensures { λ r. ⌜ r ≡ defs.rowOf (defs.placeOf kind) ⌝ }
+    ensures { λ r. ⌜ RowOf kind r ⌝ }
 {
     row_at(place_of(kind))
 }
 
 // The row at a place, with the count of its own kind.
 pub fn line_at(place: usize, counts: [u64; 17]) -> Line
-    ensures { λ r. ⌜ r ≡ defs.lineOf place counts ⌝ }
+    ensures { λ r. ⌜ LineAt place counts r ⌝ }
 {
     let w = row_at(place);
     let first = place_of(w.kind);

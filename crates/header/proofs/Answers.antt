@@ -9,14 +9,14 @@ use borrow.Author.Tests.{eqb-true}
 use Rattle.laws.proofs.Unique.{Unique, one-answer}
 use Rattle.units.specs.declared.Clocks.{Clocks}
 use Rattle.header.specs.declared.Header.{Header}
-use Rattle.header.specs.declared.Parsed.{Parsed}
 use Rattle.header.specs.Bytes.{parsedOf, headerRefusal, headerWord, headerOf, answer, numberOf}
+use Rattle.header.specs.Contracts.{Parse, Counted}
 
-pub parse-unique : (bytes : List ℕ) → Unique (λ (r : Parsed). r ≡ parsedOf bytes)
+pub parse-unique : (bytes : List ℕ) → Unique (Parse bytes)
 parse-unique bytes = one-answer (parsedOf bytes)
 
 -- of every clock count, tRCD to tREFI
-pub count-unique : (count : Header → Clocks) (h : Header) → Unique (λ (r : Clocks). r ≡ count h)
+pub count-unique : (count : Header → Clocks) (h : Header) → Unique (Counted count h)
 count-unique count h = one-answer (count h)
 
 -- the enum's number is 01's

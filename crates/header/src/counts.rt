@@ -8,85 +8,86 @@ ghost use Prim.Native.Nat.{_+_, _<_};
 ghost use mathlib.Core.Bool.{cond};
 ghost use Rattle.header.specs.Bins.{timeAt};
 ghost use Rattle.header.specs.Counts.{row, least, leastOr, greatest, tRCD, tRP, tRC, tRAS, tRRD, tFAW, tCKE, tRTP, tWTR, tWR, tMRD, tMOD, tRFC, tXS, zqLong, zqShort, mostRAS, tREFI};
+ghost use Rattle.header.specs.Contracts.{Counted};
 
 impl Header {
     pub fn trcd(self) -> Clocks
-        ensures { λ r. ⌜ r ≡ tRCD self ⌝ }
+        ensures { λ r. ⌜ Counted tRCD self r ⌝ }
     {
         core(self, 0)
     }
 
     pub fn trp(self) -> Clocks
-        ensures { λ r. ⌜ r ≡ tRP self ⌝ }
+        ensures { λ r. ⌜ Counted tRP self r ⌝ }
     {
         core(self, 0)
     }
 
     pub fn trc(self) -> Clocks
-        ensures { λ r. ⌜ r ≡ tRC self ⌝ }
+        ensures { λ r. ⌜ Counted tRC self r ⌝ }
     {
         core(self, 1)
     }
 
     pub fn tras(self) -> Clocks
-        ensures { λ r. ⌜ r ≡ tRAS self ⌝ }
+        ensures { λ r. ⌜ Counted tRAS self r ⌝ }
     {
         core(self, 2)
     }
 
     pub fn trrd(self) -> Clocks
-        ensures { λ r. ⌜ r ≡ tRRD self ⌝ }
+        ensures { λ r. ⌜ Counted tRRD self r ⌝ }
     {
         let time = paged(self, 3);
         least_or(self, time, 4)
     }
 
     pub fn tfaw(self) -> Clocks
-        ensures { λ r. ⌜ r ≡ tFAW self ⌝ }
+        ensures { λ r. ⌜ Counted tFAW self r ⌝ }
     {
         let time = paged(self, 5);
         least(self, time)
     }
 
     pub fn tcke(self) -> Clocks
-        ensures { λ r. ⌜ r ≡ tCKE self ⌝ }
+        ensures { λ r. ⌜ Counted tCKE self r ⌝ }
     {
         let time = time(self.bin, 7);
         least_or(self, time, 3)
     }
 
     pub fn trtp(self) -> Clocks
-        ensures { λ r. ⌜ r ≡ tRTP self ⌝ }
+        ensures { λ r. ⌜ Counted tRTP self r ⌝ }
     {
         least_or(self, 7500, 4)
     }
 
     pub fn twtr(self) -> Clocks
-        ensures { λ r. ⌜ r ≡ tWTR self ⌝ }
+        ensures { λ r. ⌜ Counted tWTR self r ⌝ }
     {
         least_or(self, 7500, 4)
     }
 
     pub fn twr(self) -> Clocks
-        ensures { λ r. ⌜ r ≡ tWR self ⌝ }
+        ensures { λ r. ⌜ Counted tWR self r ⌝ }
     {
         least(self, 15000)
     }
 
     pub fn tmrd(self) -> Clocks
-        ensures { λ r. ⌜ r ≡ tMRD self ⌝ }
+        ensures { λ r. ⌜ Counted tMRD self r ⌝ }
     {
         Clocks { clocks: 4 }
     }
 
     pub fn tmod(self) -> Clocks
-        ensures { λ r. ⌜ r ≡ tMOD self ⌝ }
+        ensures { λ r. ⌜ Counted tMOD self r ⌝ }
     {
         least_or(self, 15000, 12)
     }
 
     pub fn trfc(self) -> Clocks
-        ensures { λ r. ⌜ r ≡ tRFC self ⌝ }
+        ensures { λ r. ⌜ Counted tRFC self r ⌝ }
     {
         let time = choice(self.dense, 160000, 110000);
         least(self, time)
@@ -94,32 +95,32 @@ impl Header {
 
     // tRFC + 10000, at least 5.
     pub fn txs(self) -> Clocks
-        ensures { λ r. ⌜ r ≡ tXS self ⌝ }
+        ensures { λ r. ⌜ Counted tXS self r ⌝ }
     {
         let time = choice(self.dense, 160000, 110000);
         least_or(self, time + 10000, 5)
     }
 
     pub fn zqlong(self) -> Clocks
-        ensures { λ r. ⌜ r ≡ zqLong self ⌝ }
+        ensures { λ r. ⌜ Counted zqLong self r ⌝ }
     {
         least_or(self, 320000, 256)
     }
 
     pub fn zqshort(self) -> Clocks
-        ensures { λ r. ⌜ r ≡ zqShort self ⌝ }
+        ensures { λ r. ⌜ Counted zqShort self r ⌝ }
     {
         least_or(self, 80000, 64)
     }
 
     pub fn mostras(self) -> Clocks
-        ensures { λ r. ⌜ r ≡ mostRAS self ⌝ }
+        ensures { λ r. ⌜ Counted mostRAS self r ⌝ }
     {
         greatest(self, 70000000)
     }
 
     pub fn trefi(self) -> Clocks
-        ensures { λ r. ⌜ r ≡ tREFI self ⌝ }
+        ensures { λ r. ⌜ Counted tREFI self r ⌝ }
     {
         let time = choice(self.hot, 3900000, 7800000);
         greatest(self, time)

@@ -4,10 +4,11 @@ use crate::Parsed;
 use crate::bins::least;
 use units::Ps;
 ghost use mathlib.Core.Path.{_≡_};
-ghost use Rattle.header.specs.Bytes.{headerOf, fieldsOf, parsedOf};
+ghost use Rattle.header.specs.Bytes.{headerOf, fieldsOf};
+ghost use Rattle.header.specs.Contracts.{Parse};
 
 pub fn parse(bytes: &[u8]) -> Parsed
-    ensures { λ r. ⌜ r ≡ parsedOf (now (bytes .entry)) ⌝ }
+    ensures { λ r. ⌜ Parse (now (bytes .entry)) r ⌝ }
 {
     if bytes.len() != 6 {
         return Parsed::Refused(1);

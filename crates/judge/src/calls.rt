@@ -10,6 +10,7 @@ use units::Ps;
 ghost use mathlib.Core.Path.{_≡_};
 ghost use Rattle.judge.specs.Calls as calls;
 ghost use Rattle.judge.specs.Ranges as ranges;
+ghost use Rattle.judge.specs.Contracts.{Open, Section, Close};
 
 impl State {
     // At most so many records in all.
@@ -17,7 +18,7 @@ impl State {
 
     // Checks 1, 2, 3, 4.
     pub fn open(header: &[u8]) -> Opened
-        ensures { λ r. ⌜ r ≡ calls.openOf (now (header .entry)) ⌝ }
+        ensures { λ r. ⌜ Open (now (header .entry)) r ⌝ }
     {
         let parsed = header::parse(header);
         match parsed {
@@ -34,7 +35,7 @@ impl State {
 
     // Checks 17, 5, 7, and 6 with the records, in one pass: a step of 0 leaves the rank as it was.
     pub fn section(self, bytes: &[u8]) -> Taken
-        ensures { λ r. ⌜ r ≡ calls.sectionOf self (now (bytes .entry)) ⌝ }
+        ensures { λ r. ⌜ Section self (now (bytes .entry)) r ⌝ }
     {
         if !in_range(self) {
             return refuse(17, self);
@@ -54,7 +55,7 @@ impl State {
 
     // Checks 17, 8; then the verdict, the banks, the registers and the debt at the end edge.
     pub fn close(self, end: u64) -> Closed
-        ensures { λ r. ⌜ r ≡ calls.closeOf self end ⌝ }
+        ensures { λ r. ⌜ Close self end r ⌝ }
     {
         if !in_range(self) {
             return not_closed(17);

@@ -1,12 +1,11 @@
 // What a bank is at an edge: idle, open or closing.
 use answers::Bank;
 use running::Kept;
-ghost use mathlib.Core.Path.{_≡_};
-ghost use Rattle.running.specs.Breaks.{statusOf};
+ghost use Rattle.kept.specs.Contracts.{Status};
 
 // The bank at an edge after the latest record.
 pub fn status(k: Kept, t: u64) -> Bank
-    ensures { λ r. ⌜ r ≡ statusOf k t ⌝ }
+    ensures { λ r. ⌜ Status k t r ⌝ }
 {
     if k.shut.num < k.acted.num {
         return Bank::Open {

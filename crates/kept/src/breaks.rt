@@ -8,11 +8,11 @@ use records::Record;
 use running::Kept;
 use running::Written;
 ghost use mathlib.Core.Path.{_≡_};
-ghost use Rattle.answers.specs.Answer.{orElse, lowest};
 ghost use Rattle.running.specs.Breaks as breaks;
+ghost use Rattle.kept.specs.Contracts.{OrElse, SpeaksOfAll, Barred, FirstBarred, Rule3, Joined};
 
 pub fn or_else(a: Break, b: Break) -> Break
-    ensures { λ x. ⌜ x ≡ orElse a b ⌝ }
+    ensures { λ x. ⌜ OrElse a b x ⌝ }
 {
     match a {
         Break::Fine => b,
@@ -46,7 +46,7 @@ fn rule1(c: Command) -> Break
 
 // Does the command speak of all banks?
 pub fn speaks_of_all(c: Command, r: Record) -> bool
-    ensures { λ x. ⌜ x ≡ breaks.speaksOfAll c r ⌝ }
+    ensures { λ x. ⌜ SpeaksOfAll c r x ⌝ }
 {
     let k = records::rank_of(c);
     ((k == 2) & (r.a / 1024 % 2 == 1)) | ((k == 1) | ((k == 0) | ((k == 6) | (k == 9))))
@@ -99,14 +99,14 @@ fn two_if(broken: bool, partner: u64) -> Break
 
 // Rule 2 of one bank.
 pub fn barred(c: Command, k: Kept, e: u64) -> Break
-    ensures { λ x. ⌜ x ≡ breaks.barredBy (breaks.wants c) (breaks.statusOf k e) ⌝ }
+    ensures { λ x. ⌜ Barred c k e x ⌝ }
 {
     barred_by(wants(c), status(k, e))
 }
 
 // Rule 2 of all banks: the lowest in the way.
 pub fn first_barred(c: Command, banks: [Kept; 8], e: u64) -> Break
-    ensures { λ x. ⌜ x ≡ lowest (breaks.barredAt c banks e) 8 ⌝ }
+    ensures { λ x. ⌜ FirstBarred c banks e x ⌝ }
 {
     let b0 = barred(c, banks[0], e);
     let b1 = or_else(b0, barred(c, banks[1], e));
@@ -133,7 +133,7 @@ fn three_if(fine: bool) -> Break
 }
 
 pub fn rule3(chip: Chip, c: Command, r: Record, w: Written) -> Break
-    ensures { λ x. ⌜ x ≡ breaks.rule3 chip c r w ⌝ }
+    ensures { λ x. ⌜ Rule3 chip c r w x ⌝ }
 {
     let k = records::rank_of(c);
     if k == 0 {
@@ -158,7 +158,7 @@ fn mrs_allowed(chip: Chip, r: Record) -> Break
 
 // What the record breaks.
 pub fn joined(c: Command, two: Break, three: Break, spacing: Break) -> Break
-    ensures { λ x. ⌜ x ≡ breaks.joined c two three spacing ⌝ }
+    ensures { λ x. ⌜ Joined c two three spacing x ⌝ }
 {
     let t = or_else(three, spacing);
     let u = or_else(two, t);

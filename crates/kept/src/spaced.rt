@@ -2,12 +2,12 @@
 use answers::Break;
 use running::Mark;
 ghost use mathlib.Core.Path.{_≡_};
-ghost use Prim.Native.Nat.{_-_};
 ghost use Rattle.running.specs.Marks as marks;
+ghost use Rattle.kept.specs.Contracts.{Since, Needing};
 
 // The edges from one edge to another; 0 where the first is not before.
 pub fn since(e: u64, at: u64) -> u64
-    ensures { λ r. ⌜ r ≡ e - at ⌝ }
+    ensures { λ r. ⌜ Since e at r ⌝ }
 {
     if at <= e { e - at } else { 0 }
 }
@@ -31,7 +31,7 @@ pub(crate) fn spaced(k: u64, e: u64, m: Mark, otherwise: Break) -> Break
 
 // The same record under another need; a mark of no record stays one.
 pub fn needing(need: u32, m: Mark) -> Mark
-    ensures { λ r. ⌜ r ≡ marks.needing need m ⌝ }
+    ensures { λ r. ⌜ Needing need m r ⌝ }
 {
     if m.num == 0 {
         return Mark {

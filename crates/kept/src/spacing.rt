@@ -11,14 +11,14 @@ use running::Read;
 use running::Shared;
 use running::Wrote;
 ghost use mathlib.Core.Path.{_≡_};
-ghost use Rattle.records.specs.Command.{isA};
-ghost use Rattle.records.specs.declared.Command.the-variants.{Act, Pre, Rd, Wr, Mrs, Ref, Sre, Srx};
+ghost use Rattle.records.specs.declared.Command.the-variants.{Act, Pre, Rd, Wr, Mrs, Ref, Sre};
 ghost use Rattle.answers.specs.declared.Break.the-variants.{Fine};
 ghost use Rattle.running.specs.Marks as marks;
 ghost use Rattle.running.specs.Breaks as breaks;
+ghost use Rattle.kept.specs.Contracts.{Spacings, LastRules};
 
 pub fn spacings(chip: Chip, c: Command, r: Record, e: u64, k: Kept, s: Shared) -> Break
-    ensures { λ x. ⌜ x ≡ breaks.spacings chip c r e k s ⌝ }
+    ensures { λ x. ⌜ Spacings chip c r e k s x ⌝ }
 {
     match c {
         Command::Mrs => of_mrs(chip, r, e, k, s),
@@ -129,7 +129,7 @@ fn of_sre(chip: Chip, r: Record, e: u64, k: Kept, s: Shared) -> Break
 
 // Rules 22 and 23, of which no waiting time tells.
 pub fn last_rules(c: Command, e: u64, s: Shared) -> Break
-    ensures { λ x. ⌜ x ≡ breaks.whenIs (isA Srx c) 22 e (s .rests .slept) (breaks.rule23 c s) ⌝ }
+    ensures { λ x. ⌜ LastRules c e s x ⌝ }
 {
     let k = records::rank_of(c);
     if k == 10 {

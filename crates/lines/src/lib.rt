@@ -2,17 +2,16 @@
 use answers::Verdict;
 ghost use Prim.Native.Nat.{_+_, _≤_};
 ghost use lib.ListN.{length};
-ghost use Rattle.io.specs.Counts.{Counts};
-ghost use Rattle.lines.specs.Line.{spaced, cleanWords, brokenWords, verdictWords, verdictLine, refusalLine, Printed};
+ghost use Rattle.lines.specs.Line.{spaced, cleanWords, brokenWords};
 ghost use Rattle.lines.specs.Parts.{Put};
+ghost use Rattle.lines.specs.Contracts.{VerdictLine, RefusalLine, VerdictWords};
 
 // The bytes of the longest line: `broken`, six numbers of 20 digits with a space before each, the newline.
 pub const ROOM: usize = 133;
 
 // Puts the verdict's line at the start of out, and answers how many bytes it takes.
 pub fn verdict_line(v: Verdict, out: &mut [u8; ROOM]) -> usize
-    ensures { λ r. ⌜ Counts r (now (out .exit)) ⌝ }
-    ensures { λ r. ⌜ Printed (verdictLine v) (now (out .entry)) r (now (out .exit)) ⌝ }
+    ensures { λ r. ⌜ VerdictLine v (now (out .entry)) r (now (out .exit)) ⌝ }
 {
     let at = verdict_words(v, out);
     put(out, at, b"\n")
@@ -20,8 +19,7 @@ pub fn verdict_line(v: Verdict, out: &mut [u8; ROOM]) -> usize
 
 // The same for a refusal's number.
 pub fn refusal_line(n: u64, out: &mut [u8; ROOM]) -> usize
-    ensures { λ r. ⌜ Counts r (now (out .exit)) ⌝ }
-    ensures { λ r. ⌜ Printed (refusalLine n) (now (out .entry)) r (now (out .exit)) ⌝ }
+    ensures { λ r. ⌜ RefusalLine n (now (out .entry)) r (now (out .exit)) ⌝ }
 {
     let word = put(out, 0, b"refused");
     let at = number(out, word, n);
@@ -30,9 +28,7 @@ pub fn refusal_line(n: u64, out: &mut [u8; ROOM]) -> usize
 
 // The verdict's line without its newline.
 pub fn verdict_words(v: Verdict, out: &mut [u8; ROOM]) -> usize
-    ensures { λ r. ⌜ Counts r (now (out .exit)) ⌝ }
-    ensures { λ r. ⌜ r ≤ 132 ⌝ }
-    ensures { λ r. ⌜ Printed (verdictWords v) (now (out .entry)) r (now (out .exit)) ⌝ }
+    ensures { λ r. ⌜ VerdictWords v (now (out .entry)) r (now (out .exit)) ⌝ }
 {
     let outcome = v.outcome;
     if outcome == 0 {

@@ -4,10 +4,7 @@ use judge::State;
 use lines::ROOM;
 ghost use Prim.Native.Nat.{min};
 ghost use mathlib.Core.Path.{_≡_};
-ghost use Rattle.io.specs.Counts.{Counts};
-ghost use Rattle.lines.specs.Line.{Printed};
-ghost use Rattle.program.specs.Answer.{answerLine};
-ghost use Rattle.program.specs.Program.{openedRun, nextRun, ranOver};
+ghost use Rattle.program.specs.Contracts.{Begun, Next, Over, Line};
 
 // A section's bytes.
 pub const SECTION: usize = 6000;
@@ -24,7 +21,7 @@ pub struct Run {
 
 // The run after the header's bytes.
 pub fn begun(header: &[u8]) -> Run
-    ensures { λ r. ⌜ r ≡ openedRun (now (header .entry)) ⌝ }
+    ensures { λ r. ⌜ Begun (now (header .entry)) r ⌝ }
 {
     let o = State::open(header);
     let state = o.state;
@@ -37,7 +34,7 @@ pub fn begun(header: &[u8]) -> Run
 
 // The run after a section's bytes.
 pub fn next(state: State, bytes: &[u8]) -> Run
-    ensures { λ r. ⌜ r ≡ nextRun state (now (bytes .entry)) ⌝ }
+    ensures { λ r. ⌜ Next state (now (bytes .entry)) r ⌝ }
 {
     let t = state.section(bytes);
     let after = t.state;
@@ -51,7 +48,7 @@ pub fn next(state: State, bytes: &[u8]) -> Run
 // The run after a block's bytes: section after section, ten at most, while there may be more. The last section of a block that is
 // not full is not full either, if only because it is empty: behind it there is no more.
 pub fn over(start: Run, block: &[u8]) -> Run
-    ensures { λ r. ⌜ r ≡ ranOver 10 start (now (block .entry)) ⌝ }
+    ensures { λ r. ⌜ Over start (now (block .entry)) r ⌝ }
 {
     let mut run = start;
     let mut at: usize = 0;
@@ -71,8 +68,7 @@ fn least(a: usize, b: usize) -> usize
 
 // Puts the line of what was judged at the start of text, and answers how many bytes it takes.
 pub fn line(run: Run, text: &mut [u8; ROOM]) -> usize
-    ensures { λ r. ⌜ Counts r (now (text .exit)) ⌝ }
-    ensures { λ r. ⌜ Printed (answerLine (run .refused) (run .state)) (now (text .entry)) r (now (text .exit)) ⌝ }
+    ensures { λ r. ⌜ Line run (now (text .entry)) r (now (text .exit)) ⌝ }
 {
     if run.refused != 0 {
         return lines::refusal_line(run.refused, text);

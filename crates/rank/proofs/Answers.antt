@@ -2,16 +2,14 @@
 -- Assumes nothing.
 use Prim.Native.Nat.{ℕ}
 use mathlib.Core.List.{List}
-use mathlib.Core.Path.{_≡_}
 use Rattle.laws.proofs.Unique.{Unique, one-answer}
-use Rattle.answers.specs.declared.End.{End}
 use Rattle.chip.specs.declared.Chip.{Chip}
-use Rattle.edges.specs.declared.Folded.{Folded}
 use Rattle.edges.specs.declared.Rank.{Rank}
 use Rattle.edges.specs.Ends.{takenOf, endedOf}
+use Rattle.rank.specs.Contracts.{Take, Ended}
 
-pub take-unique : (C : Chip) (n : Rank) (bytes : List ℕ) → Unique (λ (r : Folded). r ≡ takenOf C n bytes)
+pub take-unique : (C : Chip) (n : Rank) (bytes : List ℕ) → Unique (Take C n bytes)
 take-unique C n bytes = one-answer (takenOf C n bytes)
 
-pub end-unique : (C : Chip) (n : Rank) (at : ℕ) → Unique (λ (r : End). r ≡ endedOf C n at)
+pub end-unique : (C : Chip) (n : Rank) (at : ℕ) → Unique (Ended C n at)
 end-unique C n at = one-answer (endedOf C n at)

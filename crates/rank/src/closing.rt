@@ -36,10 +36,11 @@ ghost use Rattle.running.specs.Ranges.{Small, lastEdge, farEdge};
 ghost use Rattle.running.specs.Said as said;
 ghost use Rattle.edges.specs.Ends as ends;
 ghost use Rattle.edges.specs.Ranges.{Ranged};
+ghost use Rattle.rank.specs.Contracts.{Ended};
 
 // The rank at the edge; zeros where a sum could wrap, or the edge is out of bounds.
 pub fn end(chip: Chip, s: Rank, at: u64) -> End
-    ensures { λ r. ⌜ r ≡ ends.endedOf chip s at ⌝ }
+    ensures { λ r. ⌜ Ended chip s at r ⌝ }
 {
     if !is_small(chip) {
         return no_end();

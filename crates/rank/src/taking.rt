@@ -5,12 +5,11 @@ use edges::Folded;
 use edges::Rank;
 use still::in_range;
 use still::is_small;
-ghost use mathlib.Core.Path.{_≡_};
-ghost use Rattle.edges.specs.Ends as ends;
+ghost use Rattle.rank.specs.Contracts.{Take};
 
 // The rank after the records; as it was, where a step is 0 or a sum could wrap.
 pub fn take(chip: Chip, s: Rank, bytes: &[u8]) -> Folded
-    ensures { λ r. ⌜ r ≡ ends.takenOf chip s (now (bytes .entry)) ⌝ }
+    ensures { λ r. ⌜ Take chip s (now (bytes .entry)) r ⌝ }
 {
     if bytes.len() % 6 != 0 {
         return Folded {

@@ -1,7 +1,8 @@
 // A record of the recording, and the command that it gives.
 ghost use mathlib.Core.Path.{_≡_};
-ghost use Rattle.records.specs.Record.{recordOf, fieldsOf};
-ghost use Rattle.records.specs.Command.{byPins, falling, rising, commandOf, rank};
+ghost use Rattle.records.specs.Record.{fieldsOf};
+ghost use Rattle.records.specs.Command.{byPins, falling, rising};
+ghost use Rattle.records.specs.Contracts.{Decode, CommandOf, RankOf};
 
 // Edges since the record before, the pin levels of CKE and of CS, RAS, CAS, WE as one number, BA, and A15..A0.
 pub struct Record {
@@ -30,7 +31,7 @@ pub enum Command {
 }
 
 pub fn decode(b0: u8, b1: u8, b2: u8, b3: u8, b4: u8, b5: u8) -> Record
-    ensures { λ r. ⌜ r ≡ recordOf b0 b1 b2 b3 b4 b5 ⌝ }
+    ensures { λ r. ⌜ Decode b0 b1 b2 b3 b4 b5 r ⌝ }
 {
     fields(bits::word(b0, b1, b2, b3, b4, b5))
 }
@@ -49,7 +50,7 @@ fn fields(w: u64) -> Record
 
 // The command of a record, by the CKE level before it.
 pub fn command_of(before: bool, r: Record) -> Command
-    ensures { λ c. ⌜ c ≡ commandOf before r ⌝ }
+    ensures { λ c. ⌜ CommandOf before r c ⌝ }
 {
     let pins = r.pins;
     if before {
@@ -100,7 +101,7 @@ fn rises(pins: u64) -> Command
 
 // The command's number, by which commands are told apart.
 pub fn rank_of(c: Command) -> u64
-    ensures { λ r. ⌜ r ≡ rank c ⌝ }
+    ensures { λ r. ⌜ RankOf c r ⌝ }
 {
     match c {
         Command::Mrs => 0,

@@ -4,10 +4,11 @@ use running::Late;
 use running::Pick;
 ghost use mathlib.Core.Path.{_≡_};
 ghost use Rattle.running.specs.Late as deadlines;
+ghost use Rattle.says.specs.Contracts.{Soonest, Late24, Sooner, Why};
 
 // The soonest due edge after lo and before hi, and its bank; hi where there is none.
 pub fn soonest(dues: [u64; 8], lo: u64, hi: u64) -> Pick
-    ensures { λ x. ⌜ x ≡ deadlines.soonest dues lo hi 8 ⌝ }
+    ensures { λ x. ⌜ Soonest dues lo hi x ⌝ }
 {
     let none = Pick { at: hi, bank: 0 };
     let k0 = better(lo, dues[0], 0, none);
@@ -30,7 +31,7 @@ fn better(lo: u64, d: u64, b: u64, k: Pick) -> Pick
 }
 
 pub fn late24(at: u64, partner: u32, most: u32) -> Late
-    ensures { λ x. ⌜ x ≡ deadlines.late24 at partner most ⌝ }
+    ensures { λ x. ⌜ Late24 at partner most x ⌝ }
 {
     Late {
         at: at,
@@ -43,7 +44,7 @@ pub fn late24(at: u64, partner: u32, most: u32) -> Late
 
 // Of two deadlines the sooner, of equals the first.
 pub fn sooner(x: Late, y: Late) -> Late
-    ensures { λ r. ⌜ r ≡ deadlines.sooner x y ⌝ }
+    ensures { λ r. ⌜ Sooner x y r ⌝ }
 {
     if x.at <= y.at {
         return x;
@@ -52,7 +53,7 @@ pub fn sooner(x: Late, y: Late) -> Late
 }
 
 pub fn why(x: Late) -> Break
-    ensures { λ r. ⌜ r ≡ deadlines.why x ⌝ }
+    ensures { λ r. ⌜ Why x r ⌝ }
 {
     Break::Broken {
         rule: x.rule,

@@ -5,10 +5,11 @@ use answers::Verdict;
 use running::Late;
 ghost use mathlib.Core.Path.{_≡_};
 ghost use Rattle.running.specs.Said as said;
+ghost use Rattle.says.specs.Contracts.{First, LateAt, VerdictAt, None, CleanAt};
 
 // Of two verdicts the first that says something.
 pub fn first(v: Verdict, w: Verdict) -> Verdict
-    ensures { λ r. ⌜ r ≡ said.first v w ⌝ }
+    ensures { λ r. ⌜ First v w r ⌝ }
 {
     if v.outcome == 0 {
         return w;
@@ -17,7 +18,7 @@ pub fn first(v: Verdict, w: Verdict) -> Verdict
 }
 
 pub fn late_at(e: u64, x: Late) -> Break
-    ensures { λ r. ⌜ r ≡ said.lateAt e x ⌝ }
+    ensures { λ r. ⌜ LateAt e x r ⌝ }
 {
     if x.at == e {
         return why(x);
@@ -26,7 +27,7 @@ pub fn late_at(e: u64, x: Late) -> Break
 }
 
 pub fn verdict_at(e: u64, n: u32, b: Break) -> Verdict
-    ensures { λ r. ⌜ r ≡ said.verdictAt e n b ⌝ }
+    ensures { λ r. ⌜ VerdictAt e n b r ⌝ }
 {
     match b {
         Break::Fine => none(),
@@ -54,13 +55,13 @@ fn broken_at(e: u64, n: u32, rule: u64, partner: u64, needed: u64, found: u64) -
 }
 
 pub fn none() -> Verdict
-    ensures { λ r. ⌜ r ≡ said.noVerdict ⌝ }
+    ensures { λ r. ⌜ None r ⌝ }
 {
     clean_at(0, 0)
 }
 
 pub fn clean_at(count: u32, end: u64) -> Verdict
-    ensures { λ r. ⌜ r ≡ said.cleanAt count end ⌝ }
+    ensures { λ r. ⌜ CleanAt count end r ⌝ }
 {
     Verdict {
         outcome: 0,

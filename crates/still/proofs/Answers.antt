@@ -2,12 +2,7 @@
 -- Assumes nothing.
 use Prim.Native.Nat.{ℕ}
 use mathlib.Core.Bool.{Bool}
-use mathlib.Core.List.{List}
-use mathlib.Core.Path.{_≡_}
 use Rattle.laws.proofs.Unique.{Unique, one-answer}
-use Rattle.answers.specs.declared.End.{End}
-use Rattle.answers.specs.declared.Register.{Register}
-use Rattle.answers.specs.declared.Verdict.{Verdict}
 use Rattle.chip.specs.declared.Chip.{Chip}
 use Rattle.chip.specs.declared.Regs.{Regs}
 use Rattle.running.specs.declared.Written.{Written}
@@ -17,21 +12,22 @@ use Rattle.edges.specs.declared.Rank.{Rank}
 use Rattle.edges.specs.Ranges.{rankInRange}
 use Rattle.edges.specs.Step.{soFar}
 use Rattle.edges.specs.Ends.{freshRank}
+use Rattle.still.specs.Contracts.{Fresh, InRange, IsSmall, NoEnd, RegistersOf, SoFar}
 
-pub fresh-unique : (level : Bool) (due : ℕ) → Unique (λ (r : Rank). r ≡ freshRank level due)
+pub fresh-unique : (level : Bool) (due : ℕ) → Unique (Fresh level due)
 fresh-unique level due = one-answer (freshRank level due)
 
-pub in-range-unique : (n : Rank) → Unique (λ (r : Bool). r ≡ rankInRange n)
+pub in-range-unique : (n : Rank) → Unique (InRange n)
 in-range-unique n = one-answer (rankInRange n)
 
-pub so-far-unique : (n : Rank) → Unique (λ (r : Verdict). r ≡ soFar n)
+pub so-far-unique : (n : Rank) → Unique (SoFar n)
 so-far-unique n = one-answer (soFar n)
 
-pub no-end-unique : Unique (λ (r : End). r ≡ noEnd)
+pub no-end-unique : Unique NoEnd
 no-end-unique = one-answer noEnd
 
-pub is-small-unique : (C : Chip) → Unique (λ (r : Bool). r ≡ isSmall C)
+pub is-small-unique : (C : Chip) → Unique (IsSmall C)
 is-small-unique C = one-answer (isSmall C)
 
-pub registers-unique : (g : Regs) (w : Written) → Unique (λ (r : List Register). r ≡ registersOf g w)
+pub registers-unique : (g : Regs) (w : Written) → Unique (RegistersOf g w)
 registers-unique g w = one-answer (registersOf g w)

@@ -8,9 +8,10 @@ use edges::Waits;
 use says::none;
 ghost use mathlib.Core.Path.{_≡_};
 ghost use Rattle.edges.specs.Ends as ends;
+ghost use Rattle.still.specs.Contracts.{Fresh};
 
 pub fn fresh(level: bool, due: u64) -> Rank
-    ensures { λ r. ⌜ r ≡ ends.freshRank level due ⌝ }
+    ensures { λ r. ⌜ Fresh level due r ⌝ }
 {
     Rank {
         edge: 0,

@@ -7,9 +7,10 @@ ghost use Prim.Native.Nat.{_-_};
 ghost use lib.Dec.{leb};
 ghost use Rattle.running.specs.Ranges as counts;
 ghost use Rattle.edges.specs.Ranges as ranges;
+ghost use Rattle.still.specs.Contracts.{InRange, IsSmall};
 
 pub fn in_range(s: Rank) -> bool
-    ensures { λ r. ⌜ r ≡ ranges.rankInRange s ⌝ }
+    ensures { λ r. ⌜ InRange s r ⌝ }
 {
     let actat = s.banks.actat;
     let ring = s.acts.at;
@@ -20,7 +21,7 @@ pub fn in_range(s: Rank) -> bool
 }
 
 pub fn is_small(chip: Chip) -> bool
-    ensures { λ r. ⌜ r ≡ counts.isSmall chip ⌝ }
+    ensures { λ r. ⌜ IsSmall chip r ⌝ }
 {
     (chip.trcd <= 70000000)
         & ((chip.trp <= 70000000)

@@ -8,12 +8,10 @@ use edges::Rank;
 use running::Written;
 use says::clean_at;
 use says::none;
-ghost use mathlib.Core.Path.{_≡_};
-ghost use Rattle.running.specs.Ends as ends;
-ghost use Rattle.edges.specs.Step as step;
+ghost use Rattle.still.specs.Contracts.{NoEnd, RegistersOf, SoFar};
 
 pub fn no_end() -> End
-    ensures { λ r. ⌜ r ≡ ends.noEnd ⌝ }
+    ensures { λ r. ⌜ NoEnd r ⌝ }
 {
     let b = Shown {
         status: 0,
@@ -35,7 +33,7 @@ pub fn no_end() -> End
 }
 
 pub fn registers_of(g: Regs, w: Written) -> [Register; 4]
-    ensures { λ r. ⌜ r ≡ ends.registersOf g w ⌝ }
+    ensures { λ r. ⌜ RegistersOf g w r ⌝ }
 {
     [
         Register {
@@ -59,7 +57,7 @@ pub fn registers_of(g: Regs, w: Written) -> [Register; 4]
 
 // The verdict as if closed at the last record's edge so far.
 pub fn so_far(s: Rank) -> Verdict
-    ensures { λ r. ⌜ r ≡ step.soFar s ⌝ }
+    ensures { λ r. ⌜ SoFar s r ⌝ }
 {
     let first = s.first;
     if first.outcome == 0 {

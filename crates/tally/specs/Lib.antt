@@ -5,3 +5,4 @@ pub mod Walk
 pub mod Refused
 pub mod Places
 pub mod Search
+pub mod Contracts

@@ -12,8 +12,9 @@ ghost use Prim.Native.Nat.{_+_, _≤_, _<_};
 ghost use mathlib.Core.Bool.{cond};
 ghost use lib.ListN.{length};
 ghost use Rattle.records.specs.Record.{records, recordAt};
-ghost use Rattle.tally.specs.Kinds.{kindOf, kindAt};
+ghost use Rattle.tally.specs.Kinds.{kindOf};
 ghost use Rattle.tally.specs.Tally as defs;
+ghost use Rattle.tally.specs.Contracts.{TallyStart, TallySection, KindAt};
 
 // A count above this is refused: from there a sum could wrap.
 const LARGEST: u64 = 1152921504606846976;
@@ -73,7 +74,7 @@ pub enum Sought {
 impl Tally {
     // No record yet: CKE is high.
     pub fn start() -> Tally
-        ensures { λ r. ⌜ r ≡ defs.start ⌝ }
+        ensures { λ r. ⌜ TallyStart r ⌝ }
     {
         let counts = [0u64; 17];
         Tally {
@@ -84,7 +85,7 @@ impl Tally {
 
     // Checks 17, 5; then the section's records are counted.
     pub fn section(self, bytes: &[u8]) -> Tallied
-        ensures { λ r. ⌜ r ≡ defs.sectionOf self (now (bytes .entry)) ⌝ }
+        ensures { λ r. ⌜ TallySection self (now (bytes .entry)) r ⌝ }
     {
         let counts = self.counts;
         if !in_range(counts) {
@@ -156,7 +157,7 @@ fn record_at(bytes: &[u8], at: usize) -> Record
 
 // The kind of a record, by the CKE level before it.
 pub fn kind_at(level: bool, r: Record) -> usize
-    ensures { λ k. ⌜ (k ≡ kindAt level r) × (k < 17) ⌝ }
+    ensures { λ k. ⌜ KindAt level r k ⌝ }
 {
     let c = records::command_of(level, r);
     kind_of(c, r.a / 1024 % 2 == 1)

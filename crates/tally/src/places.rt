@@ -12,11 +12,12 @@ ghost use lib.Dec.{eqb};
 ghost use lib.ListN.{length};
 ghost use Rattle.tally.specs.Walk.{wrapped};
 ghost use Rattle.tally.specs.Places as defs;
+ghost use Rattle.tally.specs.Contracts.{SpotStart, SpotBegun, SpotPassed, SpotFind};
 
 impl Spot {
     // Before the first file.
     pub fn start(limit: u64) -> Spot
-        ensures { λ r. ⌜ r ≡ defs.startOf limit ⌝ }
+        ensures { λ r. ⌜ SpotStart limit r ⌝ }
     {
         Spot {
             reached: Reached::start(limit),
@@ -27,7 +28,7 @@ impl Spot {
 
     // A file more; headed: it begins with the six bytes of a header.
     pub fn begun(self, headed: bool) -> Spot
-        ensures { λ r. ⌜ r ≡ defs.begunOf self headed ⌝ }
+        ensures { λ r. ⌜ SpotBegun self headed r ⌝ }
     {
         let reached = self.reached;
         Spot {
@@ -39,7 +40,7 @@ impl Spot {
 
     // A section more. Bytes behind its last whole record belong to none.
     pub fn passed(self, bytes: &[u8]) -> Spot
-        ensures { λ r. ⌜ r ≡ defs.passedOf self (defs.words (now (bytes .entry))) ⌝ }
+        ensures { λ r. ⌜ SpotPassed self (now (bytes .entry)) r ⌝ }
     {
         let mut s = self;
         let mut at: usize = 0;
@@ -53,7 +54,7 @@ impl Spot {
 
     // The section's record of number n.
     pub fn find(self, n: u64, bytes: &[u8]) -> Sought
-        ensures { λ r. ⌜ r ≡ defs.findOf n self (defs.words (now (bytes .entry))) ⌝ }
+        ensures { λ r. ⌜ SpotFind self n (now (bytes .entry)) r ⌝ }
     {
         let mut s = self;
         let mut at: usize = 0;

@@ -4,14 +4,15 @@ ghost use mathlib.Core.Path.{_≡_};
 ghost use Prim.Native.Nat.{_*_, _-_};
 ghost use Rattle.records.specs.Record.{records};
 ghost use Rattle.running.specs.Ranges.{limit};
-ghost use Rattle.tally.specs.Refused.{beforeZero, refusedAt};
+ghost use Rattle.tally.specs.Refused.{beforeZero};
+ghost use Rattle.tally.specs.Contracts.{RefusedAt};
 
 // The records of a recording, at most.
 const LIMIT: u64 = 1048576;
 
 // Behind `count` records: the one cut short (5), the first of step 0 (6), the first past the limit (7). No other refusal is of a record.
 pub fn refused_at(refused: u64, bytes: &[u8], count: u32) -> usize
-    ensures { λ r. ⌜ r ≡ refusedAt refused (now (bytes .entry)) count ⌝ }
+    ensures { λ r. ⌜ RefusedAt refused (now (bytes .entry)) count r ⌝ }
 {
     if refused == 5 {
         return bytes.len() - bytes.len() % 6;

@@ -6,12 +6,12 @@ use records::Record;
 ghost use mathlib.Core.Path.{_≡_};
 ghost use mathlib.Core.Bool.{cond};
 ghost use lib.Dec.{ltb};
-ghost use Rattle.tally.specs.Walk as defs;
+ghost use Rattle.tally.specs.Contracts.{ReachedStart, ReachedNext, ReachedFound};
 
 impl Reached {
     // No record yet: CKE is high.
     pub fn start(limit: u64) -> Reached
-        ensures { λ r. ⌜ r ≡ defs.start limit ⌝ }
+        ensures { λ r. ⌜ ReachedStart limit r ⌝ }
     {
         Reached {
             number: 0,
@@ -24,7 +24,7 @@ impl Reached {
 
     // A record more.
     pub fn next(self, r: Record) -> Reached
-        ensures { λ n. ⌜ n ≡ defs.nextOf self r ⌝ }
+        ensures { λ n. ⌜ ReachedNext self r n ⌝ }
     {
         let number = std::num::wrapping_add_u64(self.number, 1);
         let edge = std::num::wrapping_add_u64(self.edge, r.step);
@@ -39,7 +39,7 @@ impl Reached {
 
     // The record r, behind those that the walk has passed.
     pub fn found(self, r: Record) -> Found
-        ensures { λ f. ⌜ f ≡ defs.foundOf self r ⌝ }
+        ensures { λ f. ⌜ ReachedFound self r f ⌝ }
     {
         let n = self.next(r);
         Found {

@@ -10,8 +10,8 @@ use lib.Dec.{eqb}
 use borrow.Author.Tests.{eqb-true, eqb-false, ne-eqb}
 use Rattle.laws.proofs.Unique.{Unique, one-answer}
 use Rattle.units.specs.declared.Ps.{Ps}
-use Rattle.units.specs.declared.Clocks.{Clocks}
 use Rattle.units.specs.Round.{up, down, upOf, downOf, LeastNotShorter, GreatestNotLonger}
+use Rattle.units.specs.Contracts.{Up, Down}
 
 pub up-zero : (t : ℕ) → up t 0 ≡ 0
 unfolding up
@@ -81,8 +81,8 @@ down-most t p = go (eqb p 0)
     go false = div-le-self t p
 
 -- one answer for each contract
-pub up-unique : (t p : Ps) → Unique (λ (r : Clocks). r ≡ upOf t p)
+pub up-unique : (t p : Ps) → Unique (Up t p)
 up-unique t p = one-answer (upOf t p)
 
-pub down-unique : (t p : Ps) → Unique (λ (r : Clocks). r ≡ downOf t p)
+pub down-unique : (t p : Ps) → Unique (Down t p)
 down-unique t p = one-answer (downOf t p)

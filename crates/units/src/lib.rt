@@ -1,7 +1,6 @@
 // Picoseconds and clocks, kept apart as the standard keeps ns and nCK: two types of one field each.
 // Only the two roundings here turn the one into the other. A period of 0 gives 0 clocks.
-ghost use mathlib.Core.Path.{_≡_};
-ghost use Rattle.units.specs.Round.{upOf, downOf};
+ghost use Rattle.units.specs.Contracts.{Up, Down};
 
 pub struct Ps {
     pub ps: u64,
@@ -15,7 +14,7 @@ impl Ps {
     // A least time: the least number of clocks that is not shorter. Quotient plus one where there is a
     // remainder, so that no sum can wrap.
     pub fn up(self, period: Ps) -> Clocks
-        ensures { λ r. ⌜ r ≡ upOf self period ⌝ }
+        ensures { λ r. ⌜ Up self period r ⌝ }
     {
         let t = self.ps;
         let p = period.ps;
@@ -30,7 +29,7 @@ impl Ps {
 
     // A greatest time: the greatest number of clocks that is not longer.
     pub fn down(self, period: Ps) -> Clocks
-        ensures { λ r. ⌜ r ≡ downOf self period ⌝ }
+        ensures { λ r. ⌜ Down self period r ⌝ }
     {
         let t = self.ps;
         let p = period.ps;
