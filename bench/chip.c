@@ -82,21 +82,28 @@ static int cwl_of_period(int p)
     return p >= 2500 ? 5 : p >= 1875 ? 6 : p >= 1500 ? 7 : p >= 1250 ? 8 : 9;
 }
 
-int code_allowed(const struct header *h, const struct counts *t, unsigned number, unsigned code)
+/* The lowest bit of each field that is not allowed. */
+static unsigned wrong_fields(const struct header *h, const struct counts *t, unsigned number, unsigned code)
 {
     switch (number) {
     case 0:
-        return (code & 0xE080) == 0 && (code & 3) != 3 && cl_allowed(h, cl_of(code)) &&
-               WRITE_RECOVERY[code >> 9 & 7] >= t->wr;
+        return (code & 0xE080) | ((code & 3) == 3) << 0 | !cl_allowed(h, cl_of(code)) << 2 |
+               (WRITE_RECOVERY[code >> 9 & 7] < t->wr) << 9;
     case 1:
-        return (code & 0xE5A1) == 0 && (code >> 3 & 3) != 3 && (code & 0x0240) != 0x0240 &&
-               ((code & 0x0800) == 0 || h->width == 0);
+        return (code & 0xE5A1) | ((code & 0x0240) == 0x0240) << 2 | ((code & 0x0018) == 0x0018) << 3 |
+               (h->width != 0 ? code & 0x0800 : 0);
     case 2:
-        return (code & 0xF900) == 0 && (int)(code >> 3 & 7) + 5 == cwl_of_period(h->period) &&
-               (code & 0x0600) != 0x0600 && (code & 0x00C0) != 0x00C0;
-    case 3: return code == 0;
-    default: return 0;
+        return (code & 0xF900) | ((int)(code >> 3 & 7) + 5 != cwl_of_period(h->period)) << 3 |
+               ((code & 0x00C0) == 0x00C0) << 6 | ((code & 0x0600) == 0x0600) << 9;
+    case 3: return code;
+    default: return 1 << NO_REGISTER;
     }
+}
+
+int bad_bit(const struct header *h, const struct counts *t, unsigned number, unsigned code)
+{
+    unsigned wrong = wrong_fields(h, t, number, code);
+    return wrong == 0 ? NO_BIT : __builtin_ctz(wrong);
 }
 
 static int al_of(const uint16_t *code)

@@ -200,7 +200,7 @@ static inline int calibrate(struct judge *j, struct record r)
 static inline int set_mode(struct judge *j, struct record r)
 {
     if ((r.edge < all_idle_from(j) || r.edge < j->set_from || r.edge < read_out(j) ||
-         !code_allowed(&j->header, &j->t, r.ba, r.a)) &&
+         bad_bit(&j->header, &j->t, r.ba, r.a) != NO_BIT) &&
         rules_break(j, r))
         return 1;
     j->mrs = mark(r, j->t.mod);

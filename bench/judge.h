@@ -96,7 +96,9 @@ uint32_t judge_whole(const uint8_t *recording, size_t length, uint64_t end, uint
 /* chip.c: the header, its clock counts, the registers. */
 int read_header(struct header *h, const uint8_t *six);
 void count_clocks(struct counts *t, const struct header *h);
-int code_allowed(const struct header *h, const struct counts *t, unsigned number, unsigned code);
+/* The lowest address bit of a field that is not allowed; or that there is no such register, or no such bit. */
+enum { NO_REGISTER = 16, NO_BIT = 17 };
+int bad_bit(const struct header *h, const struct counts *t, unsigned number, unsigned code);
 int32_t act_to_column(const struct counts *t, const uint16_t *code);
 void column_kinds(struct kind *kind, const struct counts *t, const uint16_t *code);
 

@@ -173,12 +173,18 @@ static int refresh_or_calibrate(struct judge *j)
            soon(j, 18, &j->zq) || soon(j, 21, &j->woke);
 }
 
+static int not_allowed(struct judge *j, int bit)
+{
+    if (bit == NO_BIT)
+        return 0;
+    say(j, 3, j->count, 0, 0, bit);
+    return 1;
+}
+
 static int set_mode(struct judge *j, unsigned number, unsigned code)
 {
-    if (not_all_idle(j))
+    if (not_all_idle(j) || not_allowed(j, bad_bit(&j->header, &j->t, number, code)))
         return 1;
-    if (!code_allowed(&j->header, &j->t, number, code))
-        return without_clocks(j, 3, 0);
     return soon_after_any_start(j) || soon(j, 15, &j->ref) || soon_for(j, 16, &j->mrs, MRS_TO_MRS) ||
            soon(j, 18, &j->zq) || soon_after_read(j) || soon(j, 21, &j->woke);
 }

@@ -46,7 +46,8 @@ extern "C" {
  * Clean: record is the number of records, edge is end, the rest 0. Broken: the first broken edge and
  * the lowest rule broken there; record is the number of the record that breaks it (from 1), and 0 for
  * rules 24 and 25, which are deadlines, also where a record stands at that edge; partner is that of the
- * earlier record that proves it (0: none); needed and found are clocks. Bytes of out after these keep
+ * earlier record that proves it (0: none); needed and found are clocks, but for rule 3 on an MRS: there
+ * needed is 0 and found the refused bit, as manilaply_register tells it. Bytes of out after these keep
  * their values.
  *
  * Answers 0, or the first of
@@ -78,7 +79,12 @@ uint32_t manilaply_judge(const uint8_t *recording, size_t recording_len, uint64_
  *    2   the header's edition is not 1
  *    3   a zero field of the header is not zero
  *    4   the period is under the bin's least, or over 3300 ps
- *   11   number is above 3, or the header does not allow the code
+ *   11   number is above 3, or the header does not allow the code; what is answered is then
+ *        11 + 256 * bit: the lowest address bit of a field that is not allowed, 16 where number is above 3.
+ *        Each bit that must be 0 is a field of its own; the others, by their lowest bit:
+ *          MR0   0 A1A0, 2 CL, 9 WR
+ *          MR1   2 A9A6A2, 3 A4A3, 11 A11 on x16
+ *          MR2   3 CWL, 6 A6 with A7, 9 A10A9
  */
 uint32_t manilaply_register(const uint8_t *header, size_t header_len, uint32_t number, uint16_t code,
                             uint8_t *out, size_t out_len);

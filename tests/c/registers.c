@@ -71,33 +71,37 @@ static const struct {
     {P2, 3, 0x0000, {0, 0, 0, 0, 0, 0}},
 };
 
-/* Each is refused with 11. */
+/* Each is refused with 11 and 256 times the bit: the lowest of a field that is not allowed, 16 where there is no such register. */
 static const struct {
     const uint8_t *header;
     uint32_t number;
     uint16_t code;
+    uint32_t bit;
 } NOT_ALLOWED[] = {
     /* MR0: burst 11; CL 0000 and 8; A7; WR 8; A13, A14, A15 */
-    {P1, 0, 0x0B53}, {P1, 0, 0x0B00}, {P1, 0, 0x0B40}, {P1, 0, 0x0BD0}, {P1, 0, 0x0950},
-    {P1, 0, 0x2B50}, {P1, 0, 0x4B50}, {P1, 0, 0x8B50},
+    {P1, 0, 0x0B53, 0}, {P1, 0, 0x0B00, 2}, {P1, 0, 0x0B40, 2}, {P1, 0, 0x0BD0, 7}, {P1, 0, 0x0950, 9},
+    {P1, 0, 0x2B50, 13}, {P1, 0, 0x4B50, 14}, {P1, 0, 0x8B50, 15},
     /* MR0: WR 14 at P2 (P6); CL 7 at 2500 and CL 6 at 2499 (P7) */
-    {P2, 0, 0x0E04}, {P7, 0, 0x0430}, {P7_UNDER, 0, 0x0620},
+    {P2, 0, 0x0E04, 9}, {P7, 0, 0x0430, 2}, {P7_UNDER, 0, 0x0620, 2},
     /* MR1: A0, A5, A7, A8, A10, A13, A14, A15; AL 11; A9A6A2 110, 111; A11 on x16 */
-    {P1, 1, 0x0001}, {P1, 1, 0x0020}, {P1, 1, 0x0080}, {P1, 1, 0x0100}, {P1, 1, 0x0400},
-    {P1, 1, 0x2000}, {P1, 1, 0x4000}, {P1, 1, 0x8000}, {P1, 1, 0x0018}, {P1, 1, 0x0240},
-    {P1, 1, 0x0244}, {P2, 1, 0x0800},
+    {P1, 1, 0x0001, 0}, {P1, 1, 0x0020, 5}, {P1, 1, 0x0080, 7}, {P1, 1, 0x0100, 8}, {P1, 1, 0x0400, 10},
+    {P1, 1, 0x2000, 13}, {P1, 1, 0x4000, 14}, {P1, 1, 0x8000, 15}, {P1, 1, 0x0018, 3}, {P1, 1, 0x0240, 2},
+    {P1, 1, 0x0244, 2}, {P2, 1, 0x0800, 11},
     /* MR2: CWL 6, 8, 12; A8; A10A9 11; A6 with A7; A11 to A15 */
-    {P1, 2, 0x0008}, {P1, 2, 0x0018}, {P1, 2, 0x0038}, {P1, 2, 0x0110}, {P1, 2, 0x0610},
-    {P1, 2, 0x00D0}, {P1, 2, 0x0810}, {P1, 2, 0x1010}, {P1, 2, 0x2010}, {P1, 2, 0x4010},
-    {P1, 2, 0x8010},
+    {P1, 2, 0x0008, 3}, {P1, 2, 0x0018, 3}, {P1, 2, 0x0038, 3}, {P1, 2, 0x0110, 8}, {P1, 2, 0x0610, 9},
+    {P1, 2, 0x00D0, 6}, {P1, 2, 0x0810, 11}, {P1, 2, 0x1010, 12}, {P1, 2, 0x2010, 13}, {P1, 2, 0x4010, 14},
+    {P1, 2, 0x8010, 15},
     /* MR3: every bit */
-    {P1, 3, 0x0001}, {P1, 3, 0x0002}, {P1, 3, 0x0004}, {P1, 3, 0x0008}, {P1, 3, 0x0010},
-    {P1, 3, 0x0020}, {P1, 3, 0x0040}, {P1, 3, 0x0080}, {P1, 3, 0x0100}, {P1, 3, 0x0200},
-    {P1, 3, 0x0400}, {P1, 3, 0x0800}, {P1, 3, 0x1000}, {P1, 3, 0x2000}, {P1, 3, 0x4000},
-    {P1, 3, 0x8000},
+    {P1, 3, 0x0001, 0}, {P1, 3, 0x0002, 1}, {P1, 3, 0x0004, 2}, {P1, 3, 0x0008, 3}, {P1, 3, 0x0010, 4},
+    {P1, 3, 0x0020, 5}, {P1, 3, 0x0040, 6}, {P1, 3, 0x0080, 7}, {P1, 3, 0x0100, 8}, {P1, 3, 0x0200, 9},
+    {P1, 3, 0x0400, 10}, {P1, 3, 0x0800, 11}, {P1, 3, 0x1000, 12}, {P1, 3, 0x2000, 13}, {P1, 3, 0x4000, 14},
+    {P1, 3, 0x8000, 15},
+    /* two fields at once: the lower; a field whose higher bits stand above another's lowest */
+    {P1, 0, 0xEBD3, 0}, {P1, 0, 0xE9D0, 7}, {P1, 1, 0x0640, 2}, {P1, 1, 0x0258, 2}, {P1, 1, 0xE418, 3},
+    {P1, 2, 0xFED0, 6}, {P1, 2, 0xFE00, 3}, {P1, 3, 0xFFFF, 0}, {P1, 3, 0x8002, 1}, {P2, 1, 0x8800, 11},
     /* no register above 3, also where the number's low bits are those of one */
-    {P1, 4, 0}, {P1, 5, 0}, {P1, 7, 0}, {P1, 8, 0}, {P1, 255, 0}, {P1, 256, 0x0B50},
-    {P1, 259, 0}, {P1, 65539, 0}, {P1, 0x80000003, 0}, {P1, 0xFFFFFFFF, 0},
+    {P1, 4, 0, 16}, {P1, 5, 0, 16}, {P1, 7, 0, 16}, {P1, 8, 0, 16}, {P1, 255, 0, 16}, {P1, 256, 0x0B50, 16},
+    {P1, 259, 0, 16}, {P1, 65539, 0, 16}, {P1, 0x80000003, 0, 16}, {P1, 0xFFFFFFFF, 0, 16},
 };
 
 /* Headers by what is answered to MR3's code 0, which every header allows that is taken. */
@@ -153,7 +157,8 @@ static void registers_by_table(void)
     for (row = 0; row < ROWS(NOT_ALLOWED); row++)
         for (length = SIX; length <= SIX + 1; length++)
             reading("register not allowed", row, NOT_ALLOWED[row].header, SIX,
-                    NOT_ALLOWED[row].number, NOT_ALLOWED[row].code, length, 11, ZEROS);
+                    NOT_ALLOWED[row].number, NOT_ALLOWED[row].code, length,
+                    11 + 256 * NOT_ALLOWED[row].bit, ZEROS);
     for (row = 0; row < ROWS(HEADERS); row++)
         for (length = SIX; length <= SIX + 1; length++)
             reading("register header", row, HEADERS[row].header, SIX, 3, 0, length,
@@ -174,7 +179,8 @@ static const uint32_t REGISTER_ORDER[] = {9, 1, 2, 3, 4, 11};
 
 static const size_t NOT_SIX[] = {3, 5, 7};
 
-/* A reading in which just the refusals of the set hold, bit i for REGISTER_ORDER[i]. */
+/* A reading in which just the refusals of the set hold, bit i for REGISTER_ORDER[i]; by the code 11 comes with bit 0, by the
+ * number with 16. */
 static void refused_by(unsigned set, size_t not_six)
 {
     uint8_t header[7] = {0x14, 0x05, 0xDC, 0, 0, 0, 0};
@@ -193,6 +199,8 @@ static void refused_by(unsigned set, size_t not_six)
     if (set >> 4 & 1)
         header[2] = 0xDB;
     reading("refusals at once, by code", set, header, header_len, 3, (uint16_t)bad, out_len, wanted, ZEROS);
+    if (wanted == 11)
+        wanted += 256 * 16;
     reading("refusals at once, by number", set, header, header_len, 3 + bad, 0, out_len, wanted, ZEROS);
 }
 

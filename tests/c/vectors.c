@@ -1,10 +1,11 @@
-/* Judging from C every whole recording of tests/vectors/whole.txt. Run from the repository's root. */
+/* From C, every whole recording of tests/vectors/whole.txt and requests.txt judged, and every code of registers.txt read. Run from the
+ * repository's root. */
 #include "checks.h"
 
 int open(const char *path, int how, ...);
 long read(int file, void *bytes, size_t length);
 
-enum { TWENTY = 20, HEADER = 6, RECORD = 6 };
+enum { TWENTY = 20, HEADER = 6, RECORD = 6, SIX = 6 };
 
 /* One judging on a buffer of out_len bytes, of each kind; the recording is lent in a block of its own and must stay. */
 static void judging(const char *table, unsigned long row, const uint8_t *recording, size_t length,
@@ -37,11 +38,11 @@ static unsigned digit(uint8_t c)
     return c >= 'a' ? c - 'a' + 10u : c - '0' + 0u;
 }
 
-/* The bytes of a field in hex, up to the tab behind it. */
+/* The bytes of a field in hex, up to the tab behind it; '-' is none. */
 static size_t unhex(const uint8_t *field, uint8_t *bytes)
 {
     size_t n = 0;
-    while (field[2 * n] > ' ') {
+    while (field[2 * n] > '-') {
         bytes[n] = (uint8_t)(digit(field[2 * n]) * 16 + digit(field[2 * n + 1]));
         n++;
     }
@@ -91,9 +92,29 @@ static void by_line(const uint8_t *line, unsigned long row)
     judging("vectors, no room", row, recording, length, end, TWENTY - 1, 9, bytes);
 }
 
-static void by_vectors(void)
+/* A line: the header, tab, the register's number, tab, the code, tab, what is returned, tab, the six bytes or '-'. */
+static void by_code(const uint8_t *line, unsigned long row)
 {
-    int file = open("tests/vectors/whole.txt", 0);
+    uint8_t header[HEADER], code[2], six[SIX] = {0};
+    const uint8_t *number_field = after(line, '\t');
+    const uint8_t *code_field = after(number_field, '\t');
+    const uint8_t *answer = after(code_field, '\t');
+    uint32_t wanted = (uint32_t)number(answer), got;
+    unsigned kind;
+    unhex(line, header);
+    unhex(code_field, code);
+    if (wanted == 0)
+        unhex(after(answer, '\t'), six);
+    for (kind = 0; kind <= BLOCK; kind++) {
+        uint8_t *out = lend(kind, SIX);
+        got = manilaply_register(header, HEADER, (uint32_t)number(number_field), (uint16_t)(code[0] << 8 | code[1]), out, SIX);
+        count(holds(kind, out, SIX, six, wanted == 0 ? SIX : 0) && got == wanted, "registers.txt", row, wanted, got);
+    }
+}
+
+static void by_file(const char *path, unsigned long least, void by(const uint8_t *line, unsigned long row))
+{
+    int file = open(path, 0);
     size_t size = 0;
     long n;
     unsigned long row = 0;
@@ -101,14 +122,16 @@ static void by_vectors(void)
     while (size < sizeof text && (n = read(file, text + size, sizeof text - size)) > 0)
         size += (size_t)n;
     while (at < text + size) {
-        by_line(at, ++row);
+        by(at, ++row);
         at = after(at, '\n');
     }
-    count(row >= 1000 && size < sizeof text, "vectors, how many", row, 0, 0);
+    count(row >= least && size < sizeof text, path, row, 0, 0);
 }
 
 int main(void)
 {
-    by_vectors();
+    by_file("tests/vectors/whole.txt", 1000, by_line);
+    by_file("tests/vectors/requests.txt", 400, by_line);
+    by_file("tests/vectors/registers.txt", 300, by_code);
     return told("vectors");
 }

@@ -1,8 +1,9 @@
 //! Corners that a controller does not come to by chance: each is set up on purpose, and then the rule is broken at it.
 
 use crate::controller::{pins_of, Controller};
+use crate::random::Random;
 use crate::recording::{cke_after, registers_after, Command::*, Record};
-use crate::registers::allowed;
+use crate::registers::{allowed, bad_bit, NAMED, NO_REGISTER};
 use crate::rules::latest_start;
 use crate::settings::{allowed_code, with_longer_period};
 
@@ -12,6 +13,7 @@ pub fn corner(controller: &mut Controller, rule: u8) -> Option<()> {
         return None;
     }
     match rule {
+        3 if controller.random.chance(55) => named_bit(controller),
         3 => code_of_the_next_period(controller),
         5 => equal_starts(controller),
         21 => asleep_again(controller),
@@ -29,6 +31,25 @@ fn code_of_the_next_period(controller: &mut Controller) -> Option<()> {
     let random = &mut controller.random;
     let codes = (0..40).map(|turn| allowed_code(random, &with_longer_period(&header, turn % 2 * 2 - 1), number));
     let a = codes.into_iter().find(|code| !allowed(&header, number as u32, *code))?;
+    set(controller, number, a)
+}
+
+/// An MRS of whose code a given bit is named, or to a register that there is none of.
+fn named_bit(controller: &mut Controller) -> Option<()> {
+    let header = controller.header;
+    let random = &mut controller.random;
+    let none = 4 + random.below(4) as u8;
+    let number = random.pick(&[0, 1, 1, 2, 2, 3, 3, 3, none]);
+    let bit = NAMED.get(number as usize).map_or(NO_REGISTER, |bits| random.pick(bits));
+    let spoilt = |random: &mut Random| {
+        let good = if number < 4 { allowed_code(random, &header, number) } else { 0 };
+        good ^ random.next() as u16 & (0xFFFFu32 << bit) as u16
+    };
+    let a = (0..200).map(|_| spoilt(random)).find(|code| bad_bit(&header, number as u32, *code) == Some(bit))?;
+    set(controller, number, a)
+}
+
+fn set(controller: &mut Controller, number: u8, a: u16) -> Option<()> {
     all_idle(controller);
     let record = Record { a, ..controller.record(Mrs, number, false) };
     let edge = controller.least_edge(&record);

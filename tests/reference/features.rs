@@ -4,7 +4,7 @@ use crate::banks::precharge_start;
 use crate::deadlines::{awake_at, debt_at};
 use crate::header::Header;
 use crate::recording::{read_recording, read_records, Command::*, Event};
-use crate::registers::allowed;
+use crate::registers::{all_bit_names, allowed, bit_name};
 use crate::rules::{banks_of_rule_5, fourth_act_back, latest_start, needed};
 use crate::settings::CODE_BORDERS;
 use std::collections::BTreeMap;
@@ -60,6 +60,8 @@ fn all() -> Vec<String> {
     }
     names.extend(CODE_BORDERS.iter().map(|period| code_of_next_period(0, *period)));
     names.extend(CODE_BORDERS[..8].iter().map(|period| code_of_next_period(2, *period)));
+    names.extend(all_bit_names().map(|name| format!("rule 3 by {name}")));
+    names.extend(["Act", "Rd"].map(|command| format!("rule 3 by {command}, found 0")));
     names.extend(BORDERS.iter().map(|border| format!("period {border}")));
     names.extend(BORDERS[1..].iter().map(|border| format!("period {}", border - 1)));
     for n in 0..18 {
@@ -134,12 +136,17 @@ fn met_to_the_edge(header: &Header, past: &[Event]) -> Vec<String> {
 }
 
 /// The past holds the records up to the broken edge.
-fn corner_features(header: &Header, past: &[Event], rule: u8, edge: i64) -> Vec<String> {
+fn corner_features(header: &Header, past: &[Event], rule: u8, edge: i64, found: u64) -> Vec<String> {
     let Some((last, earlier)) = past.split_last() else { return vec![] };
-    if rule == 3 && last.command == Mrs {
+    if rule == 3 && last.command != Mrs {
+        return vec![format!("rule 3 by {:?}, found {found}", last.command)];
+    }
+    if rule == 3 {
         let next = |off: i64| Header { period: header.period + off, ..*header };
         let allows = |off: i64| allowed(&next(off), last.bank as u32, last.a);
-        return (allows(1) || allows(-1)).then(|| code_of_next_period(last.bank, header.period)).into_iter().collect();
+        let near = (allows(1) || allows(-1)).then(|| code_of_next_period(last.bank, header.period));
+        let bit = format!("rule 3 by {}", bit_name(last.bank as u32, found as u32));
+        return near.into_iter().chain([bit]).collect();
     }
     let starts_now = |place: usize| (0..8).any(|bank| precharge_start(header, past, place, bank) == Some(edge));
     if rule == 24 && (0..past.len()).any(|place| past[place].command == Wr && starts_now(place)) {
@@ -187,7 +194,7 @@ impl Features {
             names.extend(met_to_the_edge(&header, &past));
         }
         if outcome == 1 {
-            names.extend(corner_features(&header, &past, rule, edge));
+            names.extend(corner_features(&header, &past, rule, edge, number(&verdict[17..20])));
         }
         let by_one = number(&verdict[14..17]) == number(&verdict[17..20]) + 1;
         names.extend((outcome == 1 && by_one).then(|| format!("rule {rule} broken by one edge")));

@@ -58,40 +58,82 @@ fn cwl_of_period(period: i64) -> i64 {
     }
 }
 
-fn mr0_allowed(header: &Header, code: u16) -> bool {
-    field(code, 1, 0) != 0b11
-        && cl_of_code(code).is_some_and(|cl| cl_allowed(header, cl))
-        && bit(code, 7) == 0
-        && wr_of_code(code) >= header.t_wr()
-        && field(code, 15, 13) == 0
+/// A field that not every code fits: its address bits, and whether this code fits it.
+type Field = (Vec<u32>, bool);
+
+/// "Each bit that must be 0 is its own field."
+fn zeros(code: u16, places: &[u32]) -> Vec<Field> {
+    places.iter().map(|place| (vec![*place], bit(code, *place) == 0)).collect()
 }
 
-fn mr1_allowed(header: &Header, code: u16) -> bool {
+fn mr0_fields(header: &Header, code: u16) -> Vec<Field> {
+    let fields = vec![
+        (vec![0, 1], field(code, 1, 0) != 0b11),
+        (vec![2, 4, 5, 6], cl_of_code(code).is_some_and(|cl| cl_allowed(header, cl))),
+        (vec![9, 10, 11], wr_of_code(code) >= header.t_wr()),
+    ];
+    [fields, zeros(code, &[7, 13, 14, 15])].concat()
+}
+
+fn mr1_fields(header: &Header, code: u16) -> Vec<Field> {
     let a9a6a2 = bit(code, 9) << 2 | bit(code, 6) << 1 | bit(code, 2);
-    [0, 5, 7, 8, 10].iter().all(|place| bit(code, *place) == 0)
-        && field(code, 15, 13) == 0
-        && field(code, 4, 3) != 0b11
-        && a9a6a2 < 0b110
-        && (bit(code, 11) == 0 || header.width == 0)
+    let fields = vec![
+        (vec![3, 4], field(code, 4, 3) != 0b11),
+        (vec![2, 6, 9], a9a6a2 < 0b110),
+        (vec![11], bit(code, 11) == 0 || header.width == 0),
+    ];
+    [fields, zeros(code, &[0, 5, 7, 8, 10, 13, 14, 15])].concat()
 }
 
-fn mr2_allowed(header: &Header, code: u16) -> bool {
-    cwl_of_code(code) == cwl_of_period(header.period)
-        && bit(code, 8) == 0
-        && field(code, 15, 11) == 0
-        && field(code, 10, 9) != 0b11
-        && field(code, 7, 6) != 0b11
+fn mr2_fields(header: &Header, code: u16) -> Vec<Field> {
+    let fields = vec![
+        (vec![3, 4, 5], cwl_of_code(code) == cwl_of_period(header.period)),
+        (vec![6, 7], field(code, 7, 6) != 0b11),
+        (vec![9, 10], field(code, 10, 9) != 0b11),
+    ];
+    [fields, zeros(code, &[8, 11, 12, 13, 14, 15])].concat()
+}
+
+/// What is named where the register's number is above 3.
+pub const NO_REGISTER: u32 = 16;
+
+/// The lowest-numbered address bit belonging to a field that isn't allowed.
+pub fn bad_bit(header: &Header, number: u32, code: u16) -> Option<u32> {
+    let fields = match number {
+        0 => mr0_fields(header, code),
+        1 => mr1_fields(header, code),
+        2 => mr2_fields(header, code),
+        3 => zeros(code, &Vec::from_iter(0..16)),
+        _ => return Some(NO_REGISTER),
+    };
+    fields.into_iter().filter(|(_, fits)| !fits).flat_map(|(bits, _)| bits).min()
+}
+
+/// By register: the bits that can be named.
+pub const NAMED: [&[u32]; 4] = [
+    &[0, 2, 7, 9, 13, 14, 15],
+    &[0, 2, 3, 5, 7, 8, 10, 11, 13, 14, 15],
+    &[3, 6, 8, 9, 11, 12, 13, 14, 15],
+    &[0, 1, 2, 3, 4, 5, 6, 7, 8, 9, 10, 11, 12, 13, 14, 15],
+];
+
+/// How a register's bit, or a register that there is none of, is told.
+pub fn bit_name(number: u32, bit: u32) -> String {
+    if number > 3 {
+        format!("no register, {bit}")
+    } else {
+        format!("MR{number}, bit {bit}")
+    }
+}
+
+pub fn all_bit_names() -> impl Iterator<Item = String> {
+    let bits = (0..4).flat_map(|number| NAMED[number].iter().map(move |bit| bit_name(number as u32, *bit)));
+    bits.chain([bit_name(4, NO_REGISTER)])
 }
 
 /// "A register number above 3, or a code not allowed" is the opposite.
 pub fn allowed(header: &Header, number: u32, code: u16) -> bool {
-    match number {
-        0 => mr0_allowed(header, code),
-        1 => mr1_allowed(header, code),
-        2 => mr2_allowed(header, code),
-        3 => code == 0,
-        _ => false,
-    }
+    bad_bit(header, number, code).is_none()
 }
 
 /// The registers in force: each unwritten or its last code.
@@ -170,15 +212,15 @@ fn meaning(number: u32, code: u16) -> [u8; 6] {
     fields.map(|value| value as u8)
 }
 
-/// Register reading: refusals 9, 1, 2, 3, 4, 11 in this order, or six bytes.
+/// Register reading: refusals 9, 1, 2, 3, 4, 11 in this order, or six bytes; 11 comes with 256 times the bit.
 pub fn register_reading(header: &[u8], number: u32, code: u16, lent: usize) -> Result<[u8; 6], u32> {
     if lent < 6 {
         return Err(9);
     }
     let six: &[u8; 6] = header.try_into().map_err(|_| 1u32)?;
     let header = read_header(six)?;
-    if !allowed(&header, number, code) {
-        return Err(11);
+    match bad_bit(&header, number, code) {
+        Some(bit) => Err(11 + 256 * bit),
+        None => Ok(meaning(number, code)),
     }
-    Ok(meaning(number, code))
 }

@@ -4,7 +4,7 @@
 use crate::banks::{bank_at, covers, precharge_start, Bank};
 use crate::header::{Header, T_MRD};
 use crate::recording::{Command, Command::*, Event};
-use crate::registers::{allowed, is_dll_reset};
+use crate::registers::{bad_bit, is_dll_reset};
 
 #[derive(Clone, Copy, Debug, PartialEq, Default)]
 pub struct Break {
@@ -29,7 +29,7 @@ fn breaks(header: &Header, past: &[Event], rule: u8) -> Option<Break> {
     match rule {
         1 => (last.command == Forbidden).then_some(at_last),
         2 => bank_in_the_way(header, past).map(without_clocks),
-        3 => lacks_registers(header, past).then_some(at_last),
+        3 => lacks_registers(header, past).map(|found| Break { found, ..at_last }),
         5 => too_soon_after_precharge(header, past).map(with_clocks),
         8 => too_soon_after_fourth_act(header, last, earlier).map(with_clocks),
         23 => self_refresh_without_ref(last, earlier).map(without_clocks),
@@ -60,14 +60,14 @@ fn bank_in_the_way(header: &Header, past: &[Event]) -> Option<usize> {
 }
 
 /// 3 MRS needs an allowed code and BA below 4; ACT all four registers written in this recording;
-/// RD a DLL reset in it.
-fn lacks_registers(header: &Header, past: &[Event]) -> bool {
-    let Some((last, earlier)) = past.split_last() else { return false };
+/// RD a DLL reset in it. What is found: of an MRS the bit that register reading names, else 0.
+fn lacks_registers(header: &Header, past: &[Event]) -> Option<i64> {
+    let (last, earlier) = past.split_last()?;
     match last.command {
-        Mrs => last.bank >= 4 || !allowed(header, last.bank as u32, last.a),
-        Act => last.registers.0.iter().any(|code| code.is_none()),
-        Rd => !earlier.iter().any(resets_dll),
-        _ => false,
+        Mrs => bad_bit(header, last.bank as u32, last.a).map(|bit| bit as i64),
+        Act => last.registers.0.iter().any(|code| code.is_none()).then_some(0),
+        Rd => (!earlier.iter().any(resets_dll)).then_some(0),
+        _ => None,
     }
 }
 

@@ -11,7 +11,7 @@ use crate::verdict::broken_at;
 
 /// Issues a next record; true if it breaks the rule, as far as the controller knows.
 pub fn slip(controller: &mut Controller, rule: u8) -> bool {
-    let often = if rule == 3 { 60 } else { 20 };
+    let often = if rule == 3 { 80 } else { 20 };
     if controller.random.chance(often) && corner(controller, rule).is_some() {
         return true;
     }

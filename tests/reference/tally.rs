@@ -1,6 +1,7 @@
 //! How often each answer was given and each two refusals held at once, and what of the list never came.
 
 use crate::calls::{Call, Function, Function::*};
+use crate::registers::{all_bit_names, bit_name};
 use std::collections::BTreeMap;
 
 /// From so many calls of each function on, every answer and every two refusals must have come.
@@ -21,6 +22,9 @@ pub struct Tally {
 
 fn name_of(call: &Call, answer: &Result<Vec<u8>, u32>) -> String {
     match (answer, call.function) {
+        (Err(refusal), Register) if refusal % 256 == 11 => {
+            format!("refused 11, {}", bit_name(call.numbers[0] as u32, refusal / 256))
+        }
         (Err(refusal), _) => format!("refused {refusal}"),
         (Ok(bytes), Judge) if bytes[0] == 0 => "clean".to_string(),
         (Ok(bytes), Judge) => format!("rule {}", bytes[1]),
@@ -34,10 +38,13 @@ fn name_of(call: &Call, answer: &Result<Vec<u8>, u32>) -> String {
 
 /// Every answer that a function has, refusals first.
 fn all_names(function: Function, checks: &[u32]) -> Vec<String> {
-    let refusals = checks.iter().map(|refusal| format!("refused {refusal}"));
+    let refusals = checks.iter().filter(|refusal| **refusal != 11).map(|refusal| format!("refused {refusal}"));
     let taken: Vec<String> = match function {
         Judge => std::iter::once("clean".to_string()).chain((1..=25).map(|rule| format!("rule {rule}"))).collect(),
-        Register => (0..4).map(|number| format!("MR{number}")).collect(),
+        Register => {
+            let bits = all_bit_names().map(|name| format!("refused 11, {name}"));
+            bits.chain((0..4).map(|number| format!("MR{number}"))).collect()
+        }
         Burst => (0..64)
             .map(|n| {
                 let words = 4 + n / 32 * 4;
@@ -76,7 +83,8 @@ impl Tally {
             let told: Vec<String> = names.iter().map(|name| format!("{name}: {}", times(name))).collect();
             let shown = if function == Burst { &told[..checks.len()] } else { &told[..] };
             println!("{function:?}: {}", shown.join(", "));
-            let least = names[checks.len()..].iter().map(times).min().unwrap_or(0);
+            let taken = names.iter().filter(|name| !name.starts_with("refused"));
+            let least = taken.map(times).min().unwrap_or(0);
             let pairs: Vec<(u32, u32)> = all_pairs(function, checks).collect();
             let least_pair = pairs.iter().map(|pair| together(*pair)).min().unwrap_or(0);
             println!("  each answer that is no refusal at least {least} times; {} pairs of refusals at once, each at least {least_pair} times", pairs.len());

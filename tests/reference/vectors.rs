@@ -3,7 +3,7 @@
 use crate::bursts::burst_order;
 use crate::header::read_header;
 use crate::registers::{allowed, register_reading};
-use crate::text::{answer_text, banks_text, bytes_of_hex, end_of_text, registers_text};
+use crate::text::{answer_text, banks_text, bytes_of_hex, end_of_text, hex, registers_text};
 use crate::verdict::{judge, program_line, verdict_line};
 use std::fs::read_to_string;
 
@@ -31,7 +31,10 @@ pub fn check_vectors(directory: &str) -> Result<bool, String> {
         ("program.txt", program_file(&read("program.txt")?)?),
         ("long.txt", program_file(&read("long.txt")?)?),
         ("whole.txt", whole_file(&read("whole.txt")?)?),
+        ("requests.txt", whole_file(&read("requests.txt")?)?),
         ("readings.txt", readings_file(&read("readings.txt")?)?),
+        ("requests-readings.txt", titled_file(&read("requests-readings.txt")?)?),
+        ("registers.txt", registers_file(&read("registers.txt")?)?),
         ("examples of the paper", paper_examples()),
     ];
     for (name, tally) in &checks {
@@ -86,6 +89,38 @@ fn readings_file(text: &str) -> Result<Tally, String> {
             ),
         };
         tally.compare(title, expected, &got);
+    }
+    Ok(tally)
+}
+
+/// A title, hex, end, line.
+fn titled_file(text: &str) -> Result<Tally, String> {
+    let mut tally = Tally::default();
+    for line in text.lines() {
+        let [title, recording, end, expected] = line.split('\t').collect::<Vec<_>>()[..] else {
+            return Err(format!("not four fields: {line}"));
+        };
+        let answer = judge(&bytes_of_hex(recording)?, end_of_text(end)?, 20);
+        let got = answer.map_or_else(|refusal| format!("refused {refusal}"), |closing| verdict_line(&closing.verdict));
+        tally.compare(title, expected, &got);
+    }
+    Ok(tally)
+}
+
+/// Header, number, code, what is returned, the six bytes or none.
+fn registers_file(text: &str) -> Result<Tally, String> {
+    let mut tally = Tally::default();
+    for line in text.lines() {
+        let [header, number, code, expected] = line.splitn(4, '\t').collect::<Vec<_>>()[..] else {
+            return Err(format!("too few fields: {line}"));
+        };
+        let number = number.parse().map_err(|_| format!("not a number: {line}"))?;
+        let code = u16::from_str_radix(code, 16).map_err(|_| format!("not a code: {line}"))?;
+        let got = match register_reading(&bytes_of_hex(header)?, number, code, 6) {
+            Ok(six) => format!("0\t{}", hex(&six)),
+            Err(refusal) => format!("{refusal}\t-"),
+        };
+        tally.compare(line, expected, &got);
     }
     Ok(tally)
 }
@@ -147,7 +182,7 @@ fn orders_and_codes(tally: &mut Tally) {
     tally.compare("order 9", "Err(9)", &format!("{:?}", burst_order(8, 7, 0, 0, 7)));
     let reading = |header: &[u8], number, code| format!("{:?}", register_reading(header, number, code, 6));
     tally.compare("P5", "Ok([0, 0, 9, 1, 10, 0])", &reading(&P1_HEADER, 0, 0x0B50));
-    tally.compare("P6", "Err(11)", &reading(&P2_HEADER, 0, 0x0E04));
+    tally.compare("P6", "Err(2315)", &reading(&P2_HEADER, 0, 0x0E04));
     tally.compare("P6", "Ok([0, 0, 12, 0, 16, 0])", &reading(&P2_HEADER, 0, 0x0004));
     tally.compare("a header of seven bytes", "Err(1)", &reading(&[0; 7], 4, 0));
     for (period, cl_6, cl_7) in [(2500u16, "true", "false"), (2499, "false", "true")] {

@@ -58,7 +58,9 @@ FIELDS = {
         'A8': FREE,  # DLL reset
         'A11 A10 A9': WR,
         'A12': FREE,  # slow exit, fast exit
-        'A15 A14 A13': {'000': 0},
+        'A13': ZERO,
+        'A14': ZERO,
+        'A15': ZERO,
     },
     1: {
         'A0': ZERO,  # DLL off
@@ -71,7 +73,9 @@ FIELDS = {
         'A10': ZERO,
         'A11': FREE,  # TDQS; see TDQS
         'A12': FREE,  # Qoff
-        'A15 A14 A13': {'000': 0},
+        'A13': ZERO,
+        'A14': ZERO,
+        'A15': ZERO,
     },
     2: {
         'A2 A1 A0': {'000': 0, '001': 1, '010': 2, '011': 3, '100': 4, '101': 5, '110': 6, '111': 7},
@@ -79,7 +83,11 @@ FIELDS = {
         'A7 A6': {'00': 0, '01': 1, '10': 2},  # SRT, ASR: not both
         'A8': ZERO,
         'A10 A9': {'00': 0, '01': 1, '10': 2},  # Rtt_WR
-        'A15 A14 A13 A12 A11': {'00000': 0},
+        'A11': ZERO,
+        'A12': ZERO,
+        'A13': ZERO,
+        'A14': ZERO,
+        'A15': ZERO,
     },
     3: {f'A{i}': ZERO for i in range(16)},
 }
@@ -149,15 +157,21 @@ def header_refusal(head):
     return 0
 
 
-def allowed(head, number, code):
-    for bits, table in FIELDS[number].items():
-        if get(code, bits) not in (TDQS[head['width']] if (number, bits) == (1, 'A11') else table):
-            return False
-    if number == 0:
-        return cl_fits(CL[get(code, 'A6 A5 A4 A2')], head) and wr_fits(WR[get(code, 'A11 A10 A9')], head)
-    if number == 2:
-        return cwl_fits(CWL[get(code, 'A5 A4 A3')], head)
-    return True
+def fits(head, number, bits, value):
+    """Whether a field of these bits may hold the value."""
+    table = TDQS[head['width']] if (number, bits) == (1, 'A11') else FIELDS[number][bits]
+    if value not in table:
+        return False
+    clocks = {(0, 'A6 A5 A4 A2'): cl_fits, (0, 'A11 A10 A9'): wr_fits, (2, 'A5 A4 A3'): cwl_fits}.get((number, bits))
+    return clocks is None or clocks(table[value], head)
+
+
+def refused_bit(head, number, code):
+    """The lowest-numbered address bit belonging to a field that isn't allowed; 16 where there is no such register; or None."""
+    if number > 3:
+        return 16
+    return min((int(bit[1:]) for bits in FIELDS[number] if not fits(head, number, bits, get(code, bits)) for bit in bits.split()),
+               default=None)
 
 
 def written(number, code):
@@ -168,14 +182,13 @@ def written(number, code):
 
 
 def refusal(head, number, code, room):
-    """Register reading checks 9, 1, 2, 3, 4, 11."""
+    """Register reading checks 9, 1, 2, 3, 4, 11; 11 comes with 256 times the bit."""
     if room < ROOM:
         return 9
     if header_refusal(head):
         return header_refusal(head)
-    if number > 3 or not allowed(head, number, code):
-        return 11
-    return 0
+    bit = refused_bit(head, number, code)
+    return 0 if bit is None else 11 + 256 * bit
 
 
 def line(head, number, code, room):
@@ -247,7 +260,8 @@ def latencies(head):
 
 
 def every_field(head):
-    """Every code of every field, and of each bit by itself, the others as in a good code."""
+    """Every code of every field, and of each bit by itself, the others as in a good code; and each two bits
+    of one whose free fields are 0."""
     for number in FIELDS:
         for ones in (False, True) if number < 3 else (False,):
             base = good(head, number, ones)
@@ -256,6 +270,8 @@ def every_field(head):
                     call(head, number, put(base, bits, value))
             for i in range(16):
                 call(head, number, base ^ 1 << i)
+            for i, j in product(range(16), range(0 if ones else 16)):
+                call(head, number, base ^ 1 << i ^ 1 << j)
 
 
 def make_calls():
@@ -296,9 +312,9 @@ def self_test():
     p1, p2 = header(bin=1, period=1500), header(bin=3, density=1, width=1, period=1070)
     assert written(0, 0x0B50) == [0, 0, 9, 1, 10, 0] and refusal(p1, 0, 0x0B50, 6) == 0
     base = put(0, 'A6 A5 A4 A2', '0001')
-    assert refusal(p2, 0, put(base, 'A11 A10 A9', '111'), 6) == 11
+    assert refusal(p2, 0, put(base, 'A11 A10 A9', '111'), 6) == 2315
     assert refusal(p2, 0, put(base, 'A11 A10 A9', '000'), 6) == 0
-    for period, six, seven in [(2500, 0, 11), (2499, 11, 0)]:
+    for period, six, seven in [(2500, 0, 523), (2499, 523, 0)]:
         head = header(bin=1, period=period)
         assert refusal(head, 0, put(0, 'A6 A5 A4 A2', '0100'), 6) == six
         assert refusal(head, 0, put(0, 'A6 A5 A4 A2', '0110'), 6) == seven

@@ -3,11 +3,11 @@
 
     python3 tests/vectors/make.py [FOLDER]
 
-FOLDER is crates/sections_run unless given. The recordings and their answers are those of the four files beside this one,
+FOLDER is crates/sections_run unless given. The recordings and their answers are those of the files beside this one,
 and the form of a case is told at the top of crates/sections_run/src/main.rt. Nothing here comes from the code.
 
 Each recording is judged as its file says: program.txt and long.txt in sections of 6,000 bytes to the program's line,
-whole.txt and readings.txt in one section to the whole picture. Then it is cut at every record, and again at random places
+whole.txt, requests.txt and readings.txt in one section to the whole picture, requests-readings.txt in one to its line. Then it is cut at every record, and again at random places
 with empty and with refused sections in between: a refused section changes nothing, so the closing is the same, and the
 verdict so far is the break if the last record so far is at or past the broken edge, and clean before."""
 
@@ -26,20 +26,27 @@ def vectors():
         for text in lines(name):
             recording, line = text.split('\t')
             yield bytes.fromhex(recording), LAST, line, None, 6000
-    for text in lines('whole'):
+    for text in lines('whole') + lines('requests'):
         recording, end, line, *rest = text.split('\t')
         if rest:
             assert rest[0] == in_bytes(line)
-        yield bytes.fromhex(recording), edge(end, '-'), line, rest[1:], 60000
+        yield unhex(recording), edge(end, '-'), line, rest[1:], 60000
     told = [text.strip() for text in lines('readings')]
     for _, call, answer in zip(told[0::3], told[1::3], told[2::3]):
         recording, end = call.split(' end ')
         line, *rest = answer.split(' | ')
         yield bytes.fromhex(recording), edge(end, 'last'), line, rest, 60000
+    for text in lines('requests-readings'):
+        _, recording, end, line = text.split('\t')
+        yield unhex(recording), edge(end, '-'), line, None, 60000
 
 
 def lines(name):
     return (HERE / f'{name}.txt').read_text().splitlines()
+
+
+def unhex(text):
+    return b'' if text == '-' else bytes.fromhex(text)
 
 
 def edge(text, last):

@@ -1,5 +1,6 @@
 """The verdict in one line that begins with a file and an offset, as compilers write them."""
 
+from fields import refused
 from words import NAMES
 
 # The commands that speak of one bank.
@@ -57,9 +58,7 @@ def why(said, rule):
 def lacking(said):
     """What rule 3 misses at this command."""
     if said['record_command'] == 'MRS':
-        if int(said['record_bank']) > 3:
-            return 'there is no such register'
-        return f'code {said["record_address"]} is not allowed there'
+        return refused(said)
     if said['record_command'] == 'ACT':
         return ', '.join(f'MR{i}' for i in range(4) if f'mr{i}' not in said) + ' not written'
     return 'no DLL reset was seen'

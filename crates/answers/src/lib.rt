@@ -4,7 +4,8 @@ mod report;
 pub use report::put_verdict;
 pub use report::verdict_bytes;
 
-// What a record or an edge breaks: the rule, the number of the earlier record (0: none), the clocks needed and found.
+// What a record or an edge breaks: the rule, the number of the earlier record (0: none), the clocks needed and found; found is the refused bit
+// where an MRS breaks rule 3.
 pub enum Break {
     Fine,
     Broken {

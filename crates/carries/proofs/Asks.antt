@@ -7,6 +7,7 @@ use mathlib.Core.Bool.{Bool, true, false, cond, _&&_, _||_}
 use mathlib.Core.List.{[], _∷_, _++_}
 use lib.Dec.{eqb}
 use borrow.Author.Tests.{ne-eqb}
+use Rattle.laws.proofs.Both.{both}
 use Rattle.laws.proofs.Eight.{getD-table, getD-first, getD-second, table-ext}
 use Rattle.records.specs.declared.Record.{Record}
 use Rattle.records.specs.declared.Command.{Command}
@@ -22,7 +23,6 @@ use Rattle.rules.specs.Banks.{actOn, closes, shuts}
 use Rattle.rules.specs.Search.{asking}
 use Rattle.rules.specs.Rules.{r6, r7, r9, r12r, r12w, r15, r16, r17, r18, r20, r21}
 use Rattle.rules.specs.Waiting.{Ask, by, byStart, afterFourth, byFourth, asks, asked, wait}
-use Rattle.rules.proofs.Events.{both}
 use Rattle.rules.proofs.Waiting.{moves}
 use Rattle.carries.proofs.Summary.{turnOf, actsOf, banksOf, waitsOf}
 use Rattle.carries.proofs.Views.{turn-small, ring-at}

@@ -10,13 +10,14 @@ use mathlib.Core.List.{List, [], _∷_}
 use lib.Dec.{ltb}
 use lib.ListN.{getD}
 use borrow.Author.Tests.{ltb-true, ltb-false, eq-eqb}
+use Rattle.laws.proofs.Both.{both}
 use Rattle.laws.proofs.Eight.{getD-first, getD-second}
 use Rattle.records.specs.declared.Command.the-variants.{Wr, Rd}
 use Rattle.chip.specs.declared.Chip.{Chip}
 use Rattle.edges.specs.Views.{latestFrom, readOf, wroteOf}
 use Rattle.rules.specs.Past.{Past, edge, number, is, bankOf, on, _∈_, latest}
 use Rattle.rules.proofs.Generic.{decide}
-use Rattle.rules.proofs.Events.{both, latest-is, latest-part}
+use Rattle.rules.proofs.Events.{latest-is, latest-part}
 use Rattle.rules.proofs.Dominate.{need10, need11, need13, need14, need19, bank-small}
 use Rattle.rules.proofs.Summary.{rdOn, wrOn, readOf as readBy, wroteOf as wroteBy}
 use Rattle.rules.proofs.Status.{latest-number}

@@ -6,16 +6,15 @@ use mathlib.Core.Path.{_≡_, refl, sym, ap, _∙_, fun-ext}
 use mathlib.Core.Logic.{⊎-elim}
 use mathlib.Core.Bool.{Bool, true, false, cond, _&&_, _||_}
 use mathlib.Core.List.{[], _∷_}
-use lib.Dec.{eqb, ltb}
+use lib.Dec.{eqb}
 use lib.ListN.{set}
-use borrow.Author.Tests.{ltb-true}
+use Rattle.laws.proofs.Both.{both}
 use Rattle.laws.proofs.Eight.{getD-table}
-use Rattle.answers.specs.declared.Break.the-variants.{Fine}
 use Rattle.records.specs.declared.Record.{Record}
 use Rattle.records.specs.declared.Command.{Command}
 use Rattle.records.specs.declared.Command.the-variants.{Mrs, Ref, Pre, Act, Wr, Rd, Zq, Sre, Srx}
 use Rattle.records.specs.Command.{a10, bankIn, rank}
-use Rattle.registers.specs.Allowed.{allowed}
+use Rattle.registers.proofs.Facts.{allowed-below}
 use Rattle.chip.specs.declared.Chip.{Chip}
 use Rattle.running.specs.Next as running
 use Rattle.running.specs.Next.{shutsNow, startNow}
@@ -25,10 +24,10 @@ use Rattle.edges.specs.Next.{setIf, startOf}
 use Rattle.rules.specs.Past.{Past, edge, number, command, is, addressOf, latest, back, has}
 use Rattle.rules.specs.Registers.{mrsTo, dllReset, regs}
 use Rattle.rules.specs.Banks.{actOn, closes, start}
-use Rattle.rules.specs.Rules.{demand, rule3, checks}
-use Rattle.rules.proofs.Generic.{decide, broken-fine}
-use Rattle.rules.proofs.Events.{both, push}
-use Rattle.rules.proofs.Clean.{Clean, Among, first, next, among-fine, clean-now, is-other, ClosedBy, by-pre, by-rd, by-wr, closing-by}
+use Rattle.rules.proofs.Generic.{decide}
+use Rattle.rules.proofs.Events.{push}
+use Rattle.rules.proofs.Fits.{mrs-allowed}
+use Rattle.rules.proofs.Clean.{Clean, is-other, ClosedBy, by-pre, by-rd, by-wr, closing-by}
 use Rattle.rules.proofs.Starts.{start-pre}
 use Rattle.rules.proofs.Dominate.{need4, need10, need11, need13, need14, need18, need19, regs-same}
 use Rattle.rules.proofs.Moves.{closes-own, start-now}
@@ -124,14 +123,7 @@ module _ (r : Record) (p : Past) where
 
   -- an MRS of a clean past is to one of the four registers
   mrs-small : (C : Chip) → Clean C (r ∷ p) → is Mrs (r ∷ p) ≡ true → bankIn r < 4
-  mrs-small C h y =
-      let a : Among (rule3 C) (checks C) = next (next first) in
-      let w : demand (ltb (bankIn r) 4 && allowed (C .header) (bankIn r) (r .a)) ≡ Fine = rw y at (among-fine r p a (clean-now C r p h)) in
-      ltb-true (bankIn r) 4 (both (ltb (bankIn r) 4) (allowed (C .header) (bankIn r) (r .a)) (demanded _ w) .0)
-    where
-      demanded : (x : Bool) → demand x ≡ Fine → x ≡ true
-      demanded true z = refl
-      demanded false z = absurd (broken-fine z)
+  mrs-small C h y = allowed-below (C .header) (bankIn r) (r .a) (mrs-allowed C r p h y)
 
   -- one of six changes where its test holds
   stamped-is :

@@ -7,6 +7,7 @@ use mathlib.Core.Logic.{⊎-elim}
 use mathlib.Core.Bool.{Bool, true, false, cond, _&&_, _||_, and-true}
 use mathlib.Core.List.{_∷_, _++_}
 use lib.Dec.{eqb}
+use Rattle.laws.proofs.Both.{both}
 use Rattle.laws.specs.Eight.{table}
 use Rattle.laws.proofs.Eight.{set-table, set-first, set-second, table-ext}
 use Rattle.records.specs.declared.Record.{Record}
@@ -18,7 +19,7 @@ use Rattle.edges.specs.Next as edges
 use Rattle.rules.specs.Past.{Past, command, is, on, latest}
 use Rattle.rules.specs.Banks.{closes}
 use Rattle.rules.proofs.Generic.{decide}
-use Rattle.rules.proofs.Events.{never, both, push}
+use Rattle.rules.proofs.Events.{never, push}
 use Rattle.rules.proofs.Clean.{is-other}
 use Rattle.rules.proofs.Moves.{own-close, no-and, no-close}
 use Rattle.rules.proofs.Summary.{rdOn, wrOn}

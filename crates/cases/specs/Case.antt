@@ -10,7 +10,7 @@ use Rattle.header.specs.declared.Parsed.the-variants.{Taken}
 use Rattle.header.specs.Bytes.{parsedOf}
 use Rattle.header.specs.Counts.{tRCD, tRP, tRC, tRAS, tRRD, tFAW, tRTP, tWR, tRFC, tMOD, tXS, tREFI}
 use Rattle.registers.specs.Allowed.{allowed}
-use Rattle.registers.specs.Reading.{fieldsOf}
+use Rattle.registers.specs.Reading.{decodedOf, answerOf}
 use Rattle.bursts.specs.Burst.{orderOf}
 use Rattle.answers.specs.declared.Verdict.{Verdict}
 use Rattle.sections.specs.Recording.{wholeRefusal, wholeVerdict}
@@ -42,7 +42,7 @@ pub data Case : Type 0 where
 abbrev pub Holds : Case → Type 0
 Holds (counts h clocks) = countsOf h ≡ clocks
 Holds (burst length start kind direction words) = orderOf length start kind direction ≡ words
-Holds (reads h number code fields) = (allowed h number code ≡ true) × (fieldsOf number code ≡ fields)
+Holds (reads h number code fields) = answerOf (decodedOf h number code) ≡ record { number = 0; bytes = fields }
 Holds (permits h number code answer) = allowed h number code ≡ answer
 Holds (opens bytes h) = parsedOf bytes ≡ Taken h
 Holds (judged bs end verdict) = (wholeRefusal bs end ≡ 0) × (wholeVerdict bs end ≡ verdict)

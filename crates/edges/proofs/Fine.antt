@@ -159,7 +159,7 @@ module _ (C : Chip) (s : Rank) (r : Record) (e : ℕ) where
   unfolding rule3
   zq-fine h i l = broken-none Zq h refl (two-all C B r e Zq refl (λ b z. bars-idle C B b e 1 refl (i b z))) refl l refl
 
-  pub mrs-fine : commandIn s r ≡ Mrs → AllIdle → ltb own 4 && allowed (C .header) own (r .a) ≡ true → waitFor (s .waits) Mrs r ≤ e → brokenIn C s r e ≡ Fine
+  pub mrs-fine : commandIn s r ≡ Mrs → AllIdle → allowed (C .header) own (r .a) ≡ true → waitFor (s .waits) Mrs r ≤ e → brokenIn C s r e ≡ Fine
   unfolding rule3
   mrs-fine h i a l = broken-none Mrs h refl (two-all C B r e Mrs refl (λ b z. bars-idle C B b e 1 refl (i b z))) (rw a) l refl
 

@@ -22,7 +22,7 @@ use Rattle.running.specs.declared.Asks.{Asks}
 use Rattle.running.specs.Easy.{Asked}
 use Rattle.running.specs.Said.{noVerdict}
 use Rattle.running.specs.Ranges.{lastEdge, farEdge}
-use Rattle.running.proofs.Both.{both, neither}
+use Rattle.laws.proofs.Both.{both, neither}
 use Rattle.edges.specs.declared.Device.{Device}
 use Rattle.edges.specs.declared.Debt.{Debt}
 use Rattle.edges.specs.declared.Floor.{Floor}

@@ -13,7 +13,7 @@ use Rattle.records.specs.Record.{recordAt}
 use Rattle.records.specs.Command.{bankIn}
 use Rattle.chip.specs.declared.Chip.{Chip}
 use Rattle.running.specs.declared.Asks.{Asks}
-use Rattle.running.proofs.Both.{neither}
+use Rattle.laws.proofs.Both.{neither}
 use Rattle.edges.specs.declared.Banks.{Banks}
 use Rattle.edges.specs.declared.Floor.{Floor}
 use Rattle.edges.specs.Ways.{raisedAt, shutFloor, columnFloor, colPre, colTurn, colOut, colStart, fourAt, actFloor, mayColumn, mayPrecharge, mayActivate}

@@ -17,7 +17,7 @@ use Rattle.records.specs.Command.{a10, bankIn}
 use Rattle.chip.specs.declared.Chip.{Chip}
 use Rattle.running.specs.declared.Asks.{Asks}
 use Rattle.running.specs.Ranges.{lastEdge}
-use Rattle.running.proofs.Both.{both}
+use Rattle.laws.proofs.Both.{both}
 use Rattle.edges.specs.declared.Banks.{Banks}
 use Rattle.edges.specs.declared.Acts.{Acts}
 use Rattle.edges.specs.declared.Floor.{Floor}

@@ -23,7 +23,7 @@ use Rattle.running.specs.declared.Late.{Late}
 use Rattle.running.specs.Late.{why, sooner}
 use Rattle.running.specs.Said.{isClean, first, verdictAt, lateAt}
 use Rattle.running.specs.Ranges.{limit, lastEdge, counted, Small}
-use Rattle.running.proofs.Both.{both}
+use Rattle.laws.proofs.Both.{both}
 use Rattle.running.proofs.Ranging.{small-test}
 use Rattle.edges.specs.declared.Debt.{Debt}
 use Rattle.edges.specs.declared.Rank.{Rank}

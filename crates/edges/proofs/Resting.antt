@@ -10,7 +10,7 @@ use mathlib.Core.Path.{_≡_, refl, sym, subst}
 use lib.Dec.{leb, ltb}
 use lib.ListN.{getD}
 use borrow.Author.Tests.{leb-false, ltb-false}
-use Rattle.running.proofs.Both.{neither}
+use Rattle.laws.proofs.Both.{neither}
 use Rattle.edges.specs.Seldom.{AllIdle, AllCalm}
 
 -- what holds of the banks below n holds of one more

@@ -1,11 +1,10 @@
 -- When a seldom command is fine where no deadline passes: what the loop asks before it goes by the marks.
 -- Assumes nothing.
 use Prim.Native.Nat.{ℕ, _-_, _≤_, _<_}
-use mathlib.Core.Bool.{true, _&&_}
+use mathlib.Core.Bool.{true}
 use mathlib.Core.List.{List}
 use mathlib.Core.Logic.{_⊎_}
 use mathlib.Core.Path.{_≡_}
-use lib.Dec.{ltb}
 use lib.ListN.{getD}
 use Rattle.header.specs.declared.Header.{Header}
 use Rattle.registers.specs.Allowed.{allowed}
@@ -35,7 +34,7 @@ pub record Rested (actno shutat shutno : List ℕ) (idle hold e : ℕ) : Type 0 
 abbrev pub MayCome : Header → Command → Record → (e : ℕ) → Floor → (actno shutat shutno pre holds at num need : List ℕ) → Type 0
 MayCome h Pre r e f an sa sn p hs a m k = (a10 r ≡ true) × AllCalm an sa sn p e × (f .pre ≤ e)
 MayCome h Ref r e f an sa sn p hs a m k = Rested an sa sn (f .idle) (getD hs 0 0) e
-MayCome h Mrs r e f an sa sn p hs a m k = Rested an sa sn (f .idle) (getD hs 1 0) e × (f .out ≤ e) × (ltb (bankIn r) 4 && allowed h (bankIn r) (r .a) ≡ true)
+MayCome h Mrs r e f an sa sn p hs a m k = Rested an sa sn (f .idle) (getD hs 1 0) e × (f .out ≤ e) × (allowed h (bankIn r) (r .a) ≡ true)
 MayCome h Zq r e f an sa sn p hs a m k = Rested an sa sn (f .idle) (getD hs 2 0) e
 MayCome h Sre r e f an sa sn p hs a m k = Rested an sa sn (f .idle) (getD hs 3 0) e × (f .out ≤ e) × (getD m SRX 0 ≤ getD m REF 0)
 MayCome h Srx r e f an sa sn p hs a m k = getD k SRE 0 ≤ e - getD a SRE 0

@@ -6,7 +6,7 @@ use mathlib.Core.List.{List}
 use lib.ListN.{drop}
 use Rattle.laws.proofs.Lent as lent
 use Rattle.bursts.proofs.Answers.{length-order}
-use Rattle.registers.proofs.Answers.{six}
+use Rattle.registers.proofs.Answers.{later-kept}
 use Rattle.answers.proofs.Answers.{twenty}
 use Rattle.firmware.specs.Calls.{Judge, Register, Burst}
 
@@ -29,7 +29,7 @@ module _ (header : List ℕ) (number code : ℕ) (before : List ℕ) where
     register-refused-keeps-all = lent.refused-keeps-all _ _ _ r after call
 
     pub register-later-bytes-kept : drop 6 after ≡ drop 6 before
-    register-later-bytes-kept = rw six at (lent.later-bytes-kept _ _ _ r after call)
+    register-later-bytes-kept = later-kept header number code before r after call
 
   pub register-unique :
       {r r′ : ℕ} {after after′ : List ℕ} → Register header number code before r after → Register header number code before r′ after′

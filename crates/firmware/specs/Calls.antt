@@ -6,7 +6,7 @@ use mathlib.Core.Path.{_≡_}
 use mathlib.Core.List.{List}
 use lib.ListN.{length}
 use Rattle.laws.specs.Lent.{Wrote}
-use Rattle.registers.specs.Reading.{readCode, fieldsOf}
+use Rattle.registers.specs.Contracts.{Read}
 use Rattle.bursts.specs.Burst.{codeOf, orderOf}
 use Rattle.answers.specs.declared.Verdict.{Verdict}
 use Rattle.answers.specs.Answer.{verdictBytes}
@@ -14,7 +14,7 @@ use Rattle.sections.specs.Recording.{judgeCode, wholeRefusal, wholeVerdict}
 
 -- "register reading 9, 1, 2, 3, 4, 11", and six bytes
 abbrev pub Register : (header : List ℕ) (number code : ℕ) (before : List ℕ) (r : ℕ) (after : List ℕ) → Type 0
-Register header number code before r after = Wrote (readCode header number code (length before)) (fieldsOf number code) before r after
+Register header number code before r after = Read header number code before r after
 
 -- "burst order 10, 9", and one byte a word
 abbrev pub Burst : (n start kind direction : ℕ) (before : List ℕ) (r : ℕ) (after : List ℕ) → Type 0

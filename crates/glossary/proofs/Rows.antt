@@ -8,11 +8,11 @@ use mathlib.Core.Bool.{Bool, true, false, cond, _&&_}
 use mathlib.Core.Path.{_≡_, refl, sym, _∙_, subst}
 use lib.Dec.{eqb, ltb}
 use borrow.Author.Tests.{eqb-true, le-ltb, ltb-true, ltb-false}
+use Rattle.laws.proofs.Both.{both}
 use Rattle.records.specs.declared.Record.{Record}
 use Rattle.records.specs.declared.Command.the-variants.{Low}
 use Rattle.records.specs.Command.{byPins, falling, rising, commandOf, a10}
 use Rattle.records.specs.Record.{fieldsOf}
-use Rattle.rules.proofs.Events.{both}
 use Rattle.tally.specs.Kinds.{kindOf, kindAt}
 use Rattle.glossary.specs.declared.Row.{Row}
 use Rattle.glossary.specs.Glossary.{rows, rowOf, showsBy, shows, shownBelow}

@@ -12,7 +12,7 @@ use Rattle.header.specs.Counts.{tREFI}
 use Rattle.records.specs.Record.{records, hasZero}
 use Rattle.chip.specs.Chip.{chipOf}
 use Rattle.running.specs.Ranges.{limit, lastEdge}
-use Rattle.running.proofs.Both.{both}
+use Rattle.laws.proofs.Both.{both}
 use Rattle.running.proofs.Ranging.{small}
 use Rattle.edges.specs.declared.Rank.{Rank}
 use Rattle.edges.specs.declared.Folded.{Folded}

@@ -5,6 +5,7 @@ use answers::Break;
 use chip::Chip;
 use records::Command;
 use records::Record;
+use registers::Decoded;
 use running::Kept;
 use running::Written;
 ghost use mathlib.Core.Path.{_≡_};
@@ -119,7 +120,7 @@ pub fn first_barred(c: Command, banks: [Kept; 8], e: u64) -> Break
 }
 
 fn three_if(fine: bool) -> Break
-    ensures { λ x. ⌜ x ≡ breaks.demand fine ⌝ }
+    ensures { λ x. ⌜ x ≡ breaks.demand fine 0 ⌝ }
 {
     if fine {
         return Break::Fine;
@@ -148,12 +149,22 @@ pub fn rule3(chip: Chip, c: Command, r: Record, w: Written) -> Break
     Break::Fine
 }
 
+// An allowed code and BA below 4; found is the bit that is refused.
 fn mrs_allowed(chip: Chip, r: Record) -> Break
     ensures { λ x. ⌜ x ≡ breaks.mrsAllowed chip r ⌝ }
 {
     let h = chip.header;
     let b = r.bank % 8;
-    three_if((b < 4) & registers::allowed(h, b as u32, r.a))
+    let decoded = registers::decode(h, b as u32, r.a);
+    match decoded {
+        Decoded::Register(v) => Break::Fine,
+        Decoded::Bit(bit) => Break::Broken {
+            rule: 3,
+            partner: 0,
+            needed: 0,
+            found: bit as u64,
+        },
+    }
 }
 
 // What the record breaks.

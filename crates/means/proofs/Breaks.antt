@@ -81,7 +81,7 @@ module _ (C : Chip) (r : Record) (p : Past) where
   way-bad : (b : ℕ) → b < 8 → speaksOf C r p b ≡ true → mayFind C r p b ≡ false → rule2 C r p ≡ Fine → ⊥
   way-bad b l y z h = broken-fine (rw (y, z) at (lowest-fine _ 8 b h l))
 
-  lack-bad : Lacks C r p → rule3 C r p ≡ Fine → ⊥
+  lack-bad : {found : ℕ} → Lacks C r p found → rule3 C r p ≡ Fine → ⊥
   lack-bad (code y z) h = broken-fine (rw (y, z) at h)
   lack-bad (registers y z) h = broken-fine (rw (is-other Act Mrs (r ∷ p) (λ u. omega arith) y, y, z) at h)
   lack-bad (reset y z) h = broken-fine (rw (is-other Rd Mrs (r ∷ p) (λ u. omega arith) y, is-other Rd Act (r ∷ p) (λ u. omega arith) y, y, z) at h)

@@ -2,7 +2,7 @@
 -- Assumes nothing.
 use Prim.Native.Nat.{ℕ, _-_, _≤_, _<_}
 use native.Mathlib.Omega.{arith}
-use mathlib.Core.Path.{_≡_, refl, sym, _∙_}
+use mathlib.Core.Path.{_≡_, refl, sym, _∙_, subst}
 use mathlib.Core.Logic.{_⊎_, ⊎-elim}
 use mathlib.Core.Bool.{Bool, true, false, cond, _&&_, _||_}
 use mathlib.Core.List.{[], _∷_}
@@ -66,21 +66,24 @@ module _ (C : Chip) (r : Record) (p : Past) where
             },
           )
 
-  pub pair3 : (k n m f : ℕ) → rule3 C r p ≡ Broken k n m f → (k ≡ 3) × Lacks C r p × (n ≡ 0) × None m f
+  pub pair3 : (k n m f : ℕ) → rule3 C r p ≡ Broken k n m f → (k ≡ 3) × Lacks C r p f × (n ≡ 0) × (m ≡ 0)
   pair3 k n m f h = ⊎-elim
-      (λ (y : is Mrs (r ∷ p) ≡ true). lack _ (code y) (rw y at h))
+      (λ (y : is Mrs (r ∷ p) ≡ true). lack _ _ (code y) (rw y at h))
       (λ (z : is Mrs (r ∷ p) ≡ false). ⊎-elim
-      (λ (y : is Act (r ∷ p) ≡ true). lack _ (registers y) (rw (z, y) at h))
+      (λ (y : is Act (r ∷ p) ≡ true). lack _ 0 (registers y) (rw (z, y) at h))
       (λ (u : is Act (r ∷ p) ≡ false). ⊎-elim
-      (λ (y : is Rd (r ∷ p) ≡ true). lack _ (reset y) (rw (z, u, y) at h))
+      (λ (y : is Rd (r ∷ p) ≡ true). lack _ 0 (reset y) (rw (z, u, y) at h))
       (λ (v : is Rd (r ∷ p) ≡ false). fine-broken (rw (z, u, v) at h))
       (decide (is Rd (r ∷ p))))
       (decide (is Act (r ∷ p))))
       (decide (is Mrs (r ∷ p)))
     where
-      lack : (x : Bool) → (x ≡ false → Lacks C r p) → demand x ≡ Broken k n m f → (k ≡ 3) × Lacks C r p × (n ≡ 0) × None m f
-      lack true l g = fine-broken g
-      lack false l g = (cc, l refl, cc, (cc, cc))
+      found-is : {found : ℕ} → Broken 3 0 0 found ≡ Broken k n m f → found ≡ f
+      found-is g = cc
+
+      lack : (x : Bool) (found : ℕ) → (x ≡ false → Lacks C r p found) → demand x found ≡ Broken k n m f → (k ≡ 3) × Lacks C r p f × (n ≡ 0) × (m ≡ 0)
+      lack true found l g = fine-broken g
+      lack false found l g = (cc, subst (λ x. Lacks C r p x) (found-is g) (l refl), cc, cc)
 
   pub pair5 : (k n m f : ℕ) → rule5 C r p ≡ Broken k n m f → (k ≡ 5) × Start-pair C r p n m f
   pair5 k n m f h = ⊎-elim

@@ -19,7 +19,7 @@ module _ (C : Chip) (r : Record) (p : Past) where
   pub data Breaks : (rule : ℕ) → Type 0 where
     breaks1 : is Bad (r ∷ p) ≡ true → Breaks 1
     breaks2 : (bank : ℕ) → bank < 8 → speaksOf C r p bank ≡ true → mayFind C r p bank ≡ false → Breaks 2
-    breaks3 : Lacks C r p → Breaks 3
+    breaks3 : {found : ℕ} → Lacks C r p found → Breaks 3
     -- 4, 6, 7 and 9 to 22: fewer clocks since some event than it needs
     breaksRow :
         (x : Row) → spacing C x .to (r ∷ p) ≡ true → (s : Past) → s ∈ p → spacing C x .from (r ∷ p) s ≡ true

@@ -4,11 +4,10 @@ use Prim.Native.Nat.{ℕ, _-_, _<_}
 use mathlib.Core.Path.{_≡_}
 use mathlib.Core.Bool.{Bool, true, false, cond, _&&_, _||_}
 use mathlib.Core.List.{_∷_}
-use lib.Dec.{ltb}
 use Rattle.records.specs.declared.Record.{Record}
 use Rattle.records.specs.declared.Command.the-variants.{Mrs, Ref, Act, Rd, Zq, Sre, Srx, Bad}
 use Rattle.records.specs.Command.{a10}
-use Rattle.registers.specs.Allowed.{allowed}
+use Rattle.registers.specs.Allowed.{badBit, allowed}
 use Rattle.chip.specs.declared.Chip.{Chip}
 use Rattle.rules.specs.Past.{Past, edge, number, command, is, bankOf, on, latest, has, Greatest}
 use Rattle.rules.specs.Registers.{dllReset, mr}
@@ -16,7 +15,7 @@ use Rattle.rules.specs.Banks.{actOn, closes, shuts, isIdle, start, status}
 use Rattle.rules.specs.Rules.{may, concerns, Row, spacing}
 use Rattle.means.specs.Partners.{Latest, Fourth, Row-pair}
 
--- "Rules 1, 2, 3, 23: needed and found 0"
+-- "Rules 1, 2, 3, 23: needed and found 0"; Q-5 amends it for rule 3 on an MRS
 abbrev pub None : (needed found : ℕ) → Type 0
 None m f = (m ≡ 0) × (f ≡ 0)
 
@@ -39,11 +38,11 @@ module _ (C : Chip) (r : Record) (p : Past) where
     pub partner-is : partner ≡ cond (isIdle (status C bank p (edge (r ∷ p)))) 0 (number (latest (actOn bank) p))
     pub clocks : None needed found
 
-  -- what rule 3 asks of an MRS, an ACT and a RD is not so
-  pub data Lacks : Type 0 where
-    code : is Mrs (r ∷ p) ≡ true → ltb (bankOf (r ∷ p)) 4 && allowed (C .header) (bankOf (r ∷ p)) (r .a) ≡ false → Lacks
-    registers : is Act (r ∷ p) ≡ true → mr 0 p .written && (mr 1 p .written && (mr 2 p .written && mr 3 p .written)) ≡ false → Lacks
-    reset : is Rd (r ∷ p) ≡ true → has dllReset p ≡ false → Lacks
+  -- what rule 3 asks of an MRS, an ACT and a RD is not so; Q-5: an MRS finds the bit of the field that is not allowed
+  pub data Lacks : (found : ℕ) → Type 0 where
+    code : is Mrs (r ∷ p) ≡ true → allowed (C .header) (bankOf (r ∷ p)) (r .a) ≡ false → Lacks (badBit (C .header) (bankOf (r ∷ p)) (r .a))
+    registers : is Act (r ∷ p) ≡ true → mr 0 p .written && (mr 1 p .written && (mr 2 p .written && mr 3 p .written)) ≡ false → Lacks 0
+    reset : is Rd (r ∷ p) ≡ true → has dllReset p ≡ false → Lacks 0
 
   -- the events that rule 5 looks at: those that close an ACT's bank, or any bank for REF, MRS, ZQ, SRE
   pub data Closing-kind : (Past → Bool) → Type 0 where
@@ -84,7 +83,7 @@ module _ (C : Chip) (r : Record) (p : Past) where
   pub data Pair (partner needed found : ℕ) : (rule : ℕ) → Type 0 where
     other-change : is Bad (r ∷ p) ≡ true → partner ≡ 0 → None needed found → Pair partner needed found 1
     in-the-way : Way-pair partner needed found → Pair partner needed found 2
-    lacking : Lacks → partner ≡ 0 → None needed found → Pair partner needed found 3
+    lacking : Lacks found → partner ≡ 0 → needed ≡ 0 → Pair partner needed found 3
     too-soon : (x : Row) → Row-pair (spacing C x) r p partner needed found → Pair partner needed found (spacing C x .name)
     precharging : Start-pair partner needed found → Pair partner needed found 5
     five-acts : Fourth-pair partner needed found → Pair partner needed found 8

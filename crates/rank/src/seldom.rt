@@ -8,15 +8,13 @@ use header::Header;
 use kept::since;
 use records::Command;
 use records::Record;
-ghost use mathlib.Core.Bool.{true, _&&_};
-ghost use lib.Dec.{ltb};
+use registers::Decoded;
+ghost use mathlib.Core.Bool.{true};
 ghost use Rattle.records.specs.Command.{a10, bankIn};
 ghost use Rattle.registers.specs.Allowed.{allowed};
 ghost use mathlib.Core.Path.{_≡_};
 ghost use Prim.Native.Nat.{_-_, _≤_, _<_};
 ghost use lib.ListN.{set};
-ghost use Rattle.running.specs.Ranges.{Small, farEdge};
-ghost use Rattle.edges.specs.Next as next;
 ghost use Rattle.edges.specs.Seldom as seldom;
 ghost use Rattle.edges.specs.Ways as ways;
 
@@ -164,12 +162,16 @@ pub(crate) fn may_all(
 }
 
 pub(crate) fn may_set(header: Header, r: Record, out: u64, e: u64) -> bool
-    ensures { λ x. ⌜ (x ≡ true → (out ≤ e) × (ltb (bankIn r) 4 && allowed header (bankIn r) (r .a) ≡ true)) ⌝ }
+    ensures { λ x. ⌜ (x ≡ true → (out ≤ e) × (allowed header (bankIn r) (r .a) ≡ true)) ⌝ }
 {
     if e < out {
         return false;
     }
-    (r.bank % 8 < 4) & registers::allowed(header, (r.bank % 8) as u32, r.a)
+    let decoded = registers::decode(header, (r.bank % 8) as u32, r.a);
+    match decoded {
+        Decoded::Register(v) => true,
+        Decoded::Bit(bit) => false,
+    }
 }
 
 pub(crate) fn may_wake(need: u32, at: u64, e: u64) -> bool

@@ -1,2 +1,5 @@
 pub mod Tables
 pub mod Answers
+pub mod Lowest
+pub mod Facts
+pub mod Zeros

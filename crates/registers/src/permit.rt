@@ -1,9 +1,10 @@
-// Which codes a header allows.
+// Which field of a code a header does not allow.
 use codes::cl;
 use codes::cwl;
 use codes::wr;
 use header::Header;
 ghost use mathlib.Core.Path.{_≡_};
+ghost use mathlib.Core.Bool.{cond};
 ghost use Rattle.registers.specs.Allowed as allows;
 
 // By CL: the period from, the period under, the lowest bin, the highest bin.
@@ -23,51 +24,110 @@ const SPANS: [[u64; 4]; 13] = [
     [1070, 1250, 3, 3],
 ];
 
-// Is the code allowed for the register of this number under the header? None is above register 3.
-pub fn allowed(h: Header, number: u32, code: u16) -> bool
-    ensures { λ r. ⌜ r ≡ allows.allowed h number code ⌝ }
+// The lowest bit of a field that is not allowed, 16 above register 3, 17 where every field is allowed.
+pub(crate) fn bad_bit(h: Header, number: u32, code: u16) -> u8
+    ensures { λ r. ⌜ r ≡ allows.badBit h number code ⌝ }
 {
     if number == 0 {
-        return allowed0(h, code);
+        return bad0(h, code);
     }
     if number == 1 {
-        return allowed1(h, code);
+        return bad1(h, code);
     }
     if number == 2 {
-        return allowed2(h, code);
+        return bad2(h, code);
     }
     if number == 3 {
-        return code == 0;
+        return bad3(code);
     }
-    false
+    16
 }
 
-fn allowed0(h: Header, code: u16) -> bool
-    ensures { λ r. ⌜ r ≡ allows.allowed0 h code ⌝ }
+fn bad0(h: Header, code: u16) -> u8
+    ensures { λ r. ⌜ r ≡ allows.firstBad (allows.table0 h code) ⌝ }
 {
-    let latency = cl_fits(h, cl(code));
     let recovery = h.twr().clocks <= wide(wr(code));
-    (code % 4 < 3) & (latency & ((code / 128 % 2 == 0) & (recovery & (code / 8192 % 8 == 0))))
+    let from9 = or_bit(9, recovery, from13(code));
+    let from7 = or_bit(7, code / 128 % 2 == 0, from9);
+    let from2 = or_bit(2, cl_fits(h, cl(code)), from7);
+    or_bit(0, code % 4 < 3, from2)
 }
 
-fn allowed1(h: Header, code: u16) -> bool
-    ensures { λ r. ⌜ r ≡ allows.allowed1 h code ⌝ }
+fn bad1(h: Header, code: u16) -> u8
+    ensures { λ r. ⌜ r ≡ allows.firstBad (allows.table1 h code) ⌝ }
 {
-    let zeros = (code % 2 == 0)
-        & ((code / 32 % 2 == 0)
-            & ((code / 128 % 4 == 0) & ((code / 1024 % 2 == 0) & (code / 8192 % 8 == 0))));
-    let additive = code / 8 % 4 < 3;
     let rtt = code / 512 % 2 * 4 + code / 64 % 2 * 2 + code / 4 % 2;
-    zeros & (additive & ((rtt < 6) & !(h.wide & (code / 2048 % 2 == 1))))
+    let from11 = or_bit(11, !(h.wide & (code / 2048 % 2 == 1)), from13(code));
+    let from10 = or_bit(10, code / 1024 % 2 == 0, from11);
+    let from8 = or_bit(8, code / 256 % 2 == 0, from10);
+    let from7 = or_bit(7, code / 128 % 2 == 0, from8);
+    let from5 = or_bit(5, code / 32 % 2 == 0, from7);
+    let from3 = or_bit(3, code / 8 % 4 < 3, from5);
+    let from2 = or_bit(2, rtt < 6, from3);
+    or_bit(0, code % 2 == 0, from2)
 }
 
-fn allowed2(h: Header, code: u16) -> bool
-    ensures { λ r. ⌜ r ≡ allows.allowed2 h code ⌝ }
+fn bad2(h: Header, code: u16) -> u8
+    ensures { λ r. ⌜ r ≡ allows.firstBad (allows.table2 h code) ⌝ }
 {
     let latency = wide(cwl(code)) == cwl_for(h.period.ps);
-    let zeros = (code / 256 % 2 == 0) & (code / 2048 % 32 == 0);
     let both = (code / 64 % 2 == 1) & (code / 128 % 2 == 1);
-    latency & (zeros & ((code / 512 % 4 < 3) & !both))
+    let from9 = or_bit(9, code / 512 % 4 < 3, from11(code));
+    let from8 = or_bit(8, code / 256 % 2 == 0, from9);
+    let from6 = or_bit(6, !both, from8);
+    or_bit(3, latency, from6)
+}
+
+fn bad3(code: u16) -> u8
+    ensures { λ r. ⌜ r ≡ allows.firstBad (allows.table3 code) ⌝ }
+{
+    if code == 0 {
+        return 17;
+    }
+    let from10 = or_bit(10, code / 1024 % 2 == 0, from11(code));
+    let from9 = or_bit(9, code / 512 % 2 == 0, from10);
+    let from8 = or_bit(8, code / 256 % 2 == 0, from9);
+    let from7 = or_bit(7, code / 128 % 2 == 0, from8);
+    let from6 = or_bit(6, code / 64 % 2 == 0, from7);
+    let from5 = or_bit(5, code / 32 % 2 == 0, from6);
+    let from4 = or_bit(4, code / 16 % 2 == 0, from5);
+    let from3 = or_bit(3, code / 8 % 2 == 0, from4);
+    let from2 = or_bit(2, code / 4 % 2 == 0, from3);
+    let from1 = or_bit(1, code / 2 % 2 == 0, from2);
+    or_bit(0, code % 2 == 0, from1)
+}
+
+// A11 to A15, each 0; first together, since most codes have none of them.
+fn from11(code: u16) -> u8
+    ensures { λ r. ⌜ r ≡ allows.firstBad (allows.from11 code) ⌝ }
+{
+    if code < 2048 {
+        return 17;
+    }
+    let from12 = or_bit(12, code / 4096 % 2 == 0, from13(code));
+    or_bit(11, code / 2048 % 2 == 0, from12)
+}
+
+// A13 to A15 in the same way.
+fn from13(code: u16) -> u8
+    ensures { λ r. ⌜ r ≡ allows.firstBad (allows.from13 code) ⌝ }
+{
+    if code < 8192 {
+        return 17;
+    }
+    let from15 = or_bit(15, code / 32768 % 2 == 0, 17);
+    let from14 = or_bit(14, code / 16384 % 2 == 0, from15);
+    or_bit(13, code / 8192 % 2 == 0, from14)
+}
+
+// The field's lowest bit, or what the fields above it give where it is allowed.
+fn or_bit(low: u8, ok: bool, above: u8) -> u8
+    ensures { λ r. ⌜ r ≡ cond ok above low ⌝ }
+{
+    if ok {
+        return above;
+    }
+    low
 }
 
 // Has the CAS latency this period and bin among its own?

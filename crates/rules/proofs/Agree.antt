@@ -8,6 +8,7 @@ use mathlib.Core.Bool.{Bool, true, false, cond, _&&_, _||_}
 use mathlib.Core.List.{_∷_}
 use lib.Dec.{ltb}
 use borrow.Author.Tests.{ne-eqb, eq-eqb}
+use Rattle.laws.proofs.Both.{both}
 use Rattle.laws.specs.Eight.{table}
 use Rattle.laws.proofs.Eight.{getD-table}
 use Rattle.answers.specs.declared.Break.{Break}
@@ -29,7 +30,7 @@ use Rattle.rules.specs.Registers.{dllReset}
 use Rattle.rules.specs.Banks.{actOn, closes, shuts, start, status}
 use Rattle.rules.specs.Rules.{concerns, barred, covered, r4, r6, r7, r9, r10, r11, r12r, r12w, r13, r14, r15, r16, r17, r18, r19, r20, r21, r22, rule2, rule3, rule5, rule23, spacing, checks, breakAt}
 use Rattle.rules.proofs.Generic.{decide, Dominated, constant-dominated}
-use Rattle.rules.proofs.Events.{never, both, push}
+use Rattle.rules.proofs.Events.{never, push}
 use Rattle.rules.proofs.Clean.{Clean, lowest-ext, wantsAll, act-not-all}
 use Rattle.rules.proofs.Starts.{greatest-latest}
 use Rattle.rules.proofs.Facts.{Sound}

@@ -8,6 +8,7 @@ use mathlib.Core.Logic.{_↔_, ⊎-elim}
 use mathlib.Core.Bool.{Bool, true, false, cond, not, _&&_, _||_}
 use mathlib.Core.List.{List, [], _∷_, _++_}
 use borrow.Author.Tests.{le-ltb, eq-eqb}
+use Rattle.laws.proofs.Both.{both}
 use Rattle.answers.specs.declared.Break.{Break}
 use Rattle.answers.specs.declared.Break.the-variants.{Fine}
 use Rattle.answers.specs.Answer.{orElse}
@@ -24,7 +25,7 @@ use Rattle.rules.specs.Search.{lookBack, asking, Spacing, row}
 use Rattle.rules.specs.Rules.{r4, r6, r7, r9, r10, r11, r12r, r12w, r13, r14, r15, r16, r17, r18, r19, r20, r21, r22, spacing, spaced, since, fourth, rule1, rule2, rule3, rule5, rule8, rule23, checks, breakAt}
 use Rattle.rules.specs.Waiting.{Ask, furthest, ofAll, ofBanks, by, byStart, afterFourth, byFourth, asks, wait, waitAt, spacingRules}
 use Rattle.rules.proofs.Generic.{decide, edge-le, kept-fine, short-fine, fine-kept}
-use Rattle.rules.proofs.Events.{never, both, orElse-fine, back-edge}
+use Rattle.rules.proofs.Events.{never, orElse-fine, back-edge}
 use Rattle.rules.proofs.Clean.{is-command, wantsAll}
 use Rattle.rules.proofs.Facts.{Sound}
 use Rattle.rules.proofs.Dominate.{and-true, bank-small}

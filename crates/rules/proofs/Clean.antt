@@ -9,6 +9,7 @@ use mathlib.Core.Bool.{Bool, true, false, cond, _&&_, _||_}
 use mathlib.Core.List.{List, [], _∷_, tail}
 use lib.Dec.{eqb}
 use borrow.Author.Tests.{eqb-true, ne-eqb}
+use Rattle.laws.proofs.Both.{both}
 use Rattle.answers.specs.declared.Bank.{Bank}
 use Rattle.answers.specs.declared.Bank.the-variants.{Idle, Open, Closing}
 use Rattle.answers.specs.declared.Break.{Break}
@@ -24,7 +25,7 @@ use Rattle.rules.specs.Search.{asking, Spacing, row}
 use Rattle.rules.specs.Banks.{closes, touches, isIdle, isOpen, notClosing, status}
 use Rattle.rules.specs.Rules.{may, concerns, barred, rule2, checks, breakAt}
 use Rattle.rules.proofs.Generic.{decide, broken-fine, fine-kept, edge-le}
-use Rattle.rules.proofs.Events.{never, both, either, orElse-fine}
+use Rattle.rules.proofs.Events.{never, either, orElse-fine}
 
 -- f is one of fs
 pub data Among {A : Type 0} (f : A) : List A → Type 0 where

@@ -4,7 +4,7 @@ use Prim.Native.Nat.{ℕ, zero, suc, _≤_, _<_}
 use native.Mathlib.Omega.{arith}
 use mathlib.Core.Path.{_≡_, refl, sym, ap, _∙_}
 use mathlib.Core.Logic.{_⊎_, inl, inr, ⊎-elim}
-use mathlib.Core.Bool.{Bool, true, false, cond, _&&_, _||_, true≢false}
+use mathlib.Core.Bool.{Bool, true, false, cond, _||_, true≢false}
 use mathlib.Core.List.{[], _∷_, tail}
 use lib.Dec.{leb}
 use borrow.Author.Tests.{leb-true, leb-false, le-leb}
@@ -17,10 +17,6 @@ use Rattle.rules.proofs.Generic.{decide, broken-fine}
 
 pub never {ℓ} : {A : Type ℓ} {b : Bool} → b ≡ true → b ≡ false → A
 never y n = absurd (true≢false (sym y ∙ n))
-
-pub both : (a b : Bool) → a && b ≡ true → (a ≡ true) × (b ≡ true)
-both true b h = (refl, h)
-both false b h = never h refl
 
 pub either : (a b : Bool) → a || b ≡ true → (a ≡ true) ⊎ (b ≡ true)
 either true b h = inl refl

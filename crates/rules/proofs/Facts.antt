@@ -7,18 +7,19 @@ use mathlib.Core.Path.{_≡_, refl}
 use mathlib.Core.Bool.{Bool, true, false, cond}
 use lib.Dec.{eqb, leb, ltb}
 use borrow.Author.Tests.{eqb-true, leb-true, ltb-true}
+use Rattle.laws.proofs.Both.{both}
 use Rattle.units.specs.Round.{up, down}
 use Rattle.units.proofs.Rounding.{up-least, up-mono, up-more, down-greatest}
 use Rattle.header.specs.declared.Header.{Header}
 use Rattle.header.specs.Bins.{Bin, binOf}
 use Rattle.header.proofs.Bounds.{by-bin}
 use Rattle.codes.specs.Codes.{bit, burst, cl, wr}
-use Rattle.registers.specs.Allowed.{Span, span, spanOf, clFits, allowed0, allowed}
+use Rattle.registers.specs.Allowed.{Span, span, spanOf, clFits, allowed}
+use Rattle.registers.proofs.Facts.{allowed0}
 use Rattle.chip.specs.declared.Chip.{Chip}
 use Rattle.chip.specs.declared.Regs.{Regs}
 use Rattle.chip.specs.Chip.{chipOf}
 use Rattle.chip.specs.Latencies.{clOf, cwlOf, wrOf, bOf}
-use Rattle.rules.proofs.Events.{both}
 
 -- registers that hold allowed codes
 pub record Fit (C : Chip) (g : Regs) : Type 0 where
@@ -93,12 +94,7 @@ core = by-bin Core (omega arith) (omega arith) (omega arith) (omega arith)
 
 module _ (h : Header) (least : 1070 ≤ h .period .ps) (most : h .period .ps ≤ 3300) where
   mr0-allowed : (c : ℕ) → allowed h 0 c ≡ true → (clFits h (cl c) ≡ true) × (up 15000 (h .period .ps) ≤ wr c)
-  unfolding allowed allowed0
-  mr0-allowed c y =
-      let a = both (ltb (burst c) 3) _ y in
-      let b = both (clFits h (cl c)) _ (a .1) in
-      let d = both (eqb (bit c 7) 0) _ (b .1) in
-      (b .0, leb-true _ _ (both (leb (up 15000 (h .period .ps)) (wr c)) _ (d .1) .0))
+  mr0-allowed c y = let w = allowed0 h c y in (w .0, leb-true _ _ (w .1))
 
   fits-slow : (n : ℕ) → clFits h n ≡ true → Slow n (h .period .ps)
   unfolding clFits

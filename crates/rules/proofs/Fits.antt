@@ -8,6 +8,7 @@ use mathlib.Core.Bool.{Bool, true, false, _&&_, _||_}
 use mathlib.Core.List.{[], _∷_, tail}
 use lib.Dec.{ltb, leb}
 use borrow.Author.Tests.{leb-true, eqb-true, eq-eqb}
+use Rattle.laws.proofs.Both.{both}
 use Rattle.answers.specs.declared.Break.the-variants.{Fine}
 use Rattle.records.specs.declared.Record.{Record}
 use Rattle.records.specs.declared.Command.{Command}
@@ -20,7 +21,7 @@ use Rattle.rules.specs.Registers.{mrsTo, regs}
 use Rattle.rules.specs.Banks.{actOn, closes, touches, isIdle, isOpen, start, seen, status}
 use Rattle.rules.specs.Rules.{may, concerns, demand, rule3, checks}
 use Rattle.rules.proofs.Generic.{decide, broken-fine}
-use Rattle.rules.proofs.Events.{never, both, either, latest-is}
+use Rattle.rules.proofs.Events.{never, either, latest-is}
 use Rattle.rules.proofs.Clean.{Clean, Among, first, next, among-fine, is-other, is-command, allowed, clean-tail, clean-now, clean-in}
 use Rattle.rules.proofs.Facts.{Fit}
 
@@ -36,9 +37,9 @@ has-in k (there {r = r} {p = p} i) h = go (k (r ∷ p)) (has k p) (has-in k i h)
     go true y e = refl
     go false y e = e
 
-demanded : (x : Bool) → demand x ≡ Fine → x ≡ true
-demanded true h = refl
-demanded false h = absurd (broken-fine h)
+pub demanded : (x : Bool) (f : ℕ) → demand x f ≡ Fine → x ≡ true
+demanded true f h = refl
+demanded false f h = absurd (broken-fine h)
 
 module _ (C : Chip) where
   -- ── What a status says ────────────────────────────────────────────────────────────────────
@@ -95,14 +96,17 @@ module _ (C : Chip) where
   rule3-fine : (r : Record) (q : Past) → Clean C (r ∷ q) → rule3 C r q ≡ Fine
   rule3-fine r q h = let a : Among (rule3 C) (checks C) = next (next first) in among-fine r q a (clean-now C r q h)
 
+  -- the code of an MRS is allowed
+  pub mrs-allowed : (r : Record) (q : Past) → Clean C (r ∷ q) → is Mrs (r ∷ q) ≡ true → allowedCode (C .header) (bankOf (r ∷ q)) (r .a) ≡ true
+  mrs-allowed r q h y = demanded _ _ (rw y at (rule3-fine r q h))
+
   -- a code that was written is allowed
   written-allowed : (n : ℕ) (p : Past) → Clean C p → has (mrsTo n) p ≡ true → allowedCode (C .header) n (addressOf (latest (mrsTo n) p)) ≡ true
   written-allowed n [] h y = never y refl
   written-allowed n (r ∷ q) h y = ⊎-elim
       (λ (u : mrsTo n (r ∷ q) ≡ true).
       let w = both (is Mrs (r ∷ q)) _ u in
-      let a : demand (ltb (bankOf (r ∷ q)) 4 && allowedCode (C .header) (bankOf (r ∷ q)) (r .a)) ≡ Fine = rw (w .0) at (rule3-fine r q h) in
-      rw u (subst (λ m. allowedCode (C .header) m (r .a) ≡ true) (eqb-true (bankOf (r ∷ q)) n (w .1)) (both (ltb (bankOf (r ∷ q)) 4) _ (demanded _ a) .1)))
+      rw u (subst (λ m. allowedCode (C .header) m (r .a) ≡ true) (eqb-true (bankOf (r ∷ q)) n (w .1)) (mrs-allowed r q h (w .0))))
       (λ (u : mrsTo n (r ∷ q) ≡ false). rw u (written-allowed n q (clean-tail C r q h) (rw u at y)))
       (decide (mrsTo n (r ∷ q)))
 
@@ -110,9 +114,9 @@ module _ (C : Chip) where
   act-written : (r : Record) (q : Past) → Clean C (r ∷ q) → is Act (r ∷ q) ≡ true
       → (has (mrsTo 0) q ≡ true) × (has (mrsTo 1) q ≡ true) × (has (mrsTo 2) q ≡ true)
   act-written r q h y =
-      let a : demand (has (mrsTo 0) q && (has (mrsTo 1) q && (has (mrsTo 2) q && has (mrsTo 3) q))) ≡ Fine =
+      let a : demand (has (mrsTo 0) q && (has (mrsTo 1) q && (has (mrsTo 2) q && has (mrsTo 3) q))) 0 ≡ Fine =
       rw (is-other Act Mrs (r ∷ q) (λ e. omega arith) y, y) at (rule3-fine r q h) in
-      let w = both _ _ (demanded _ a) in
+      let w = both _ _ (demanded _ 0 a) in
       let v = both _ _ (w .1) in
       (w .0, v .0, both _ _ (v .1) .0)
 

@@ -5,6 +5,7 @@ use native.Mathlib.Omega.{arith}
 use mathlib.Core.Path.{_≡_, refl, sym, ap, _∙_}
 use mathlib.Core.Bool.{Bool, _||_}
 use mathlib.Core.List.{List, [], _∷_}
+use Rattle.laws.proofs.Both.{both}
 use Rattle.records.specs.declared.Record.{Record}
 use Rattle.records.specs.declared.Command.{Command}
 use Rattle.records.specs.declared.Command.the-variants.{Mrs, Ref, Pre, Act, Wr, Rd, Zq, Nop, Des, Sre, Srx, Low, Bad}
@@ -17,7 +18,6 @@ use Rattle.rules.specs.Banks.{actOn, closes, shuts, start}
 use Rattle.rules.specs.Rules.{r4, r6, r7, r9, r10, r11, r12r, r12w, r13, r14, r15, r16, r17, r18, r19, r20, r21}
 use Rattle.rules.specs.Waiting.{Ask, furthest, ofAll, ofOne, by, byStart, afterFourth, byFourth, asks, wait, asked}
 use Rattle.rules.proofs.Generic.{constant-dominated}
-use Rattle.rules.proofs.Events.{both}
 use Rattle.rules.proofs.Clean.{Clean}
 use Rattle.rules.proofs.Starts.{greatest-latest}
 use Rattle.rules.proofs.Facts.{Sound}

@@ -8,7 +8,7 @@ use Rattle.records.specs.declared.Record.{Record}
 use Rattle.records.specs.declared.Command.{Command}
 use Rattle.records.specs.declared.Command.the-variants.{Mrs, Ref, Pre, Act, Wr, Rd, Zq, Nop, Des, Sre, Srx, Low, Bad}
 use Rattle.records.specs.Command.{a10}
-use Rattle.registers.specs.Allowed.{allowed}
+use Rattle.registers.specs.Allowed.{badBit, allowed}
 use Rattle.chip.specs.declared.Chip.{Chip}
 use Rattle.answers.specs.declared.Bank.{Bank}
 use Rattle.answers.specs.declared.Break.{Break}
@@ -58,9 +58,9 @@ concerns Bad a o = false
 abbrev pub barred : Command → Bool → Bank → Break
 barred c x k = cond x (cond (may c k) Fine (Broken 2 (actNum k) 0 0)) Fine
 
--- what rule 3 needs
-abbrev pub demand : Bool → Break
-demand x = cond x Fine (Broken 3 0 0 0)
+-- what rule 3 needs, and what is found where it is not so
+abbrev pub demand : Bool → (found : ℕ) → Break
+demand x f = cond x Fine (Broken 3 0 0 f)
 
 -- ── The words of rules 4 to 22 ──────────────────────────────────────────────────────────────
 
@@ -93,11 +93,12 @@ module _ (C : Chip) where
   rule2 r p = lowest (λ n. barred (command (r ∷ p)) (concerns (command (r ∷ p)) (a10 r) (on n (r ∷ p))) (status C n p (edge (r ∷ p)))) 8
 
   -- "3 MRS needs an allowed code and BA below 4; ACT all four registers written in this recording; RD a DLL reset in it."
+  -- No code is allowed where BA is not below 4. Q-5: the refused bit stands "in found for rule 3 on an MRS, needed staying 0".
   abbrev pub rule3 : Record → Past → Break
   rule3 r p =
-      cond (is Mrs (r ∷ p)) (demand (ltb (bankOf (r ∷ p)) 4 && allowed (C .header) (bankOf (r ∷ p)) (r .a)))
-      (cond (is Act (r ∷ p)) (demand (mr 0 p .written && (mr 1 p .written && (mr 2 p .written && mr 3 p .written))))
-      (cond (is Rd (r ∷ p)) (demand (has dllReset p)) Fine))
+      cond (is Mrs (r ∷ p)) (demand (allowed (C .header) (bankOf (r ∷ p)) (r .a)) (badBit (C .header) (bankOf (r ∷ p)) (r .a)))
+      (cond (is Act (r ∷ p)) (demand (mr 0 p .written && (mr 1 p .written && (mr 2 p .written && mr 3 p .written))) 0)
+      (cond (is Rd (r ∷ p)) (demand (has dllReset p) 0) Fine))
 
   -- "Least spacings": rule, earlier record, later record, clocks
   abbrev pub spacing : Row → Spacing

@@ -1,4 +1,3 @@
-pub mod Both
 pub mod Sections
 pub mod Ranging
 pub mod Asking

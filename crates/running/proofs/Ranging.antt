@@ -5,7 +5,7 @@ use native.Mathlib.Omega.{arith}
 use mathlib.Core.Bool.{true}
 use mathlib.Core.Path.{_≡_}
 use borrow.Author.Tests.{leb-true, le-leb}
-use Rattle.running.proofs.Both.{both}
+use Rattle.laws.proofs.Both.{both}
 use Rattle.header.specs.declared.Header.{Header}
 use Rattle.header.specs.Counts.{tREFI}
 use Rattle.header.proofs.Bounds.{bounds}

@@ -14,7 +14,7 @@ use Rattle.records.specs.declared.Record.{Record}
 use Rattle.records.specs.declared.Command.{Command}
 use Rattle.records.specs.declared.Command.the-variants.{Mrs, Ref, Pre, Act, Wr, Rd, Zq, Nop, Des, Sre, Srx, Low, Bad}
 use Rattle.records.specs.Command.{isA, counts, a10, bankIn}
-use Rattle.registers.specs.Allowed.{allowed}
+use Rattle.registers.specs.Allowed.{badBit, allowed}
 use Rattle.chip.specs.declared.Chip.{Chip}
 use Rattle.running.specs.declared.Mark.{Mark}
 use Rattle.running.specs.declared.Kept.{Kept}
@@ -66,17 +66,18 @@ rule2 c r ks e = cond (speaksOfAll c r) (lowest (barredAt c ks e) 8) (barredAt c
 
 -- ── Rule 3 ──────────────────────────────────────────────────────────────────────────────────
 
-abbrev pub demand : Bool → Break
-demand x = cond x Fine (Broken 3 0 0 0)
+abbrev pub demand : Bool → (found : ℕ) → Break
+demand x f = cond x Fine (Broken 3 0 0 f)
 
+-- found is the bit of the field that is not allowed
 abbrev pub mrsAllowed : Chip → Record → Break
-mrsAllowed C r = demand (ltb (bankIn r) 4 && allowed (C .header) (bankIn r) (r .a))
+mrsAllowed C r = demand (allowed (C .header) (bankIn r) (r .a)) (badBit (C .header) (bankIn r) (r .a))
 
 unfoldable pub rule3 : Chip → Command → Record → Written → Break
 rule3 C c r w =
     cond (isA Mrs c) (mrsAllowed C r)
-    (cond (isA Act c) (demand (w .w0 && (w .w1 && (w .w2 && w .w3))))
-    (cond (isA Rd c) (demand (w .dll)) Fine))
+    (cond (isA Act c) (demand (w .w0 && (w .w1 && (w .w2 && w .w3))) 0)
+    (cond (isA Rd c) (demand (w .dll) 0) Fine))
 
 -- ── Rules 4 to 23 ───────────────────────────────────────────────────────────────────────────
 

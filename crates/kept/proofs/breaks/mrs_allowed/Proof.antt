@@ -1,20 +1,27 @@
--- BA below 4 and an allowed code.
+-- By the cases of the enum: an allowed code, or the bit that is refused.
 -- Assumes nothing.
+use Rattle.registers.proofs.Facts.{as-register, as-bit}
 use borrow.Author.Needs.{needs}
 use Rattle.kept.proofs.breaks.mrs_allowed.Statement.{statement}
 use Rattle.kept.proofs.breaks.mrs_allowed.Tie as tie
 
-cast-allowed : tie.Need-cast-allowed
-cast-allowed c = search needs
-
-allowed-requires : tie.Need-allowed-requires
-allowed-requires c κs = search needs
-
-three-if-requires : tie.Need-three-if-requires
-three-if-requires c κs = search needs
-
 returns : tie.Need-returns
-returns c = simp (c .three-if .ensures, c .before .allowed .ensures)
+returns c = let p = c .before .before .before in simp (as-register _ _ _ _ (p .decode .ensures) _ (c .before .decoded .given .1))
+
+returns-2 : tie.Need-returns-2
+returns-2 c =
+    let p = c .before .before .before in
+    let w = as-bit _ _ _ _ (p .decode .ensures) _ (c .before .decoded2 .given .1) in
+    simp (w .0, w .1)
 
 pub mrs-allowed-spec : {M : Type 1} → statement M
-mrs-allowed-spec = tie.close (tie.spec cast-allowed allowed-requires three-if-requires returns)
+mrs-allowed-spec =
+    tie.close
+    (tie.spec
+    (λ c. search needs)
+    (λ c κs. search needs)
+    (λ c. search needs)
+    (λ c. search needs)
+    (λ c. search needs)
+    returns
+    returns-2)

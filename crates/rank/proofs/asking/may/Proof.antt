@@ -1,6 +1,6 @@
 use mathlib.Core.Bool.{false≢true}
 use borrow.Author.Tests.{leb-true}
-use Rattle.running.proofs.Both.{both}
+use Rattle.laws.proofs.Both.{both}
 use borrow.Author.Needs.{needs}
 use Rattle.rank.proofs.asking.may.Statement.{statement}
 use Rattle.rank.proofs.asking.may.Tie as tie

@@ -3,7 +3,7 @@
 use borrow.Author.Tests.{not-true, not-false, ltb-false}
 use lib.Dec.{ltb}
 use mathlib.Core.Path.{sym, _∙_}
-use Rattle.running.proofs.Both.{neither}
+use Rattle.laws.proofs.Both.{neither}
 use Rattle.running.proofs.Ranging.{small-tested}
 use Rattle.edges.proofs.Ranging.{ranged}
 use Rattle.edges.specs.Ends.{endedOf}

@@ -1,6 +1,6 @@
 use mathlib.Core.Bool.{false≢true}
 use borrow.Author.Tests.{ltb-false, not-false}
-use Rattle.running.proofs.Both.{neither}
+use Rattle.laws.proofs.Both.{neither}
 use borrow.Author.Needs.{needs}
 use Rattle.rank.proofs.seldom.may_all.Statement.{statement}
 use Rattle.rank.proofs.seldom.may_all.Tie as tie

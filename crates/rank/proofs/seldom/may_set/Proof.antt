@@ -1,25 +1,30 @@
-use mathlib.Core.Bool.{false≢true, _&&_}
-use mathlib.Core.Path.{sym, ap, _∙_}
-use lib.Dec.{ltb}
-use Rattle.records.specs.Command.{bankIn}
+-- An MRS may come where the edge is reached and its code is allowed.
+-- Assumes nothing.
+use mathlib.Core.Bool.{false≢true}
+use Rattle.registers.proofs.Facts.{as-register}
 use borrow.Author.Needs.{needs}
 use Rattle.rank.proofs.seldom.may_set.Statement.{statement}
 use Rattle.rank.proofs.seldom.may_set.Tie as tie
-use Rattle.rank.proofs.seldom.may_set.Reads as reads
-use Rattle.rank.proofs.seldom.may_set.Lts as lts
-use Rattle.registers.proofs.allowed.Reads as allowed-reads
 
 returns : tie.Need-returns
 returns c = λ h. absurd (false≢true h)
 
-cast-allowed : tie.Need-cast-allowed
-cast-allowed c = search needs
-
-allowed-requires : tie.Need-allowed-requires
-allowed-requires c κs = search needs
-
 returns-2 : tie.Need-returns-2
-returns-2 c = λ h. (c .before .before .before .if1 .left, ap (λ x. ltb (bankIn (c .before .before .before .before .args .r)) 4 && x) (sym (c .allowed .ensures)) ∙ h)
+returns-2 c =
+    let p = c .before .before .before in
+    λ h. (p .before .before .if1 .left, as-register _ _ _ _ (p .decode .ensures) _ (c .before .decoded .given .1))
+
+returns-3 : tie.Need-returns-3
+returns-3 c = λ h. absurd (false≢true h)
 
 pub may-set-spec : {M : Type 1} → statement M
-may-set-spec = tie.close (tie.spec returns cast-allowed allowed-requires returns-2)
+may-set-spec =
+    tie.close
+    (tie.spec
+    returns
+    (λ c. search needs)
+    (λ c κs. search needs)
+    (λ c. search needs)
+    (λ c. search needs)
+    returns-2
+    returns-3)

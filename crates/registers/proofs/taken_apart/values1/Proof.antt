@@ -1,10 +1,10 @@
--- The six bytes of MR1.
+-- The six values of MR1.
 -- Assumes nothing.
-use Rattle.registers.specs.Reading.{fields1}
+use Rattle.registers.specs.Reading.{values1}
 use mathlib.Core.Path.{refl}
 use borrow.Author.Needs.{needs}
-use Rattle.registers.proofs.reading.fields1.Statement.{statement}
-use Rattle.registers.proofs.reading.fields1.Tie as tie
+use Rattle.registers.proofs.taken_apart.values1.Statement.{statement}
+use Rattle.registers.proofs.taken_apart.values1.Tie as tie
 
 cast-t4 : tie.Need-cast-t4
 cast-t4 c = search needs
@@ -34,10 +34,10 @@ cast-t24 : tie.Need-cast-t24
 cast-t24 c = search needs
 
 returns : tie.Need-returns
-unfolding fields1
+unfolding values1
 returns c = refl
 
-pub fields1-spec : {M : Type 1} → statement M
-fields1-spec =
+pub values1-spec : {M : Type 1} → statement M
+values1-spec =
     tie.close
     (tie.spec cast-t4 cast-t7 mul-t10 mul-t13 add-t14 add-t17 cast-t18 cast-t21 cast-t24 returns)

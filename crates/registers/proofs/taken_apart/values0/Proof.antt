@@ -1,10 +1,10 @@
--- The six bytes of MR0.
+-- The six values of MR0.
 -- Assumes nothing.
-use Rattle.registers.specs.Reading.{fields0}
+use Rattle.registers.specs.Reading.{values0}
 use native.Mathlib.Nat.{div-one}
 use borrow.Author.Needs.{needs}
-use Rattle.registers.proofs.reading.fields0.Statement.{statement}
-use Rattle.registers.proofs.reading.fields0.Tie as tie
+use Rattle.registers.proofs.taken_apart.values0.Statement.{statement}
+use Rattle.registers.proofs.taken_apart.values0.Tie as tie
 
 cast-t3 : tie.Need-cast-t3
 cast-t3 c = search needs
@@ -25,9 +25,9 @@ cast-t14 : tie.Need-cast-t14
 cast-t14 c = search needs
 
 returns : tie.Need-returns
-unfolding fields0
+unfolding values0
 returns c = simp (div-one, c .wr .ensures, c .before .cl .ensures)
 
-pub fields0-spec : {M : Type 1} → statement M
-fields0-spec =
+pub values0-spec : {M : Type 1} → statement M
+values0-spec =
     tie.close (tie.spec cast-t3 cast-t6 cl-requires cast-t10 wr-requires cast-t14 returns)
