@@ -7,7 +7,6 @@ use chip::Regs;
 use running::Asks;
 ghost use mathlib.Core.Path.{_≡_};
 ghost use mathlib.Core.Bool.{true, false};
-ghost use Prim.Native.Nat.{_≤_};
 ghost use lib.ListN.{getD};
 ghost use Rattle.running.specs.Easy as easy;
 ghost use Rattle.running.specs.Next as next;

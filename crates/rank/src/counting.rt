@@ -3,10 +3,8 @@ use crate::quick::record_at;
 use edges::Folded;
 use edges::Rank;
 ghost use mathlib.Core.Path.{_≡_};
-ghost use Prim.Native.Nat.{_+_, _-_, _*_, _/_, _%_, _≤_};
-ghost use lib.ListN.{length};
+ghost use Prim.Native.Nat.{_+_, _-_, _/_};
 ghost use Rattle.chip.specs.declared.Chip.{Chip};
-ghost use Rattle.running.specs.Ranges.{limit};
 ghost use Rattle.edges.specs.Folding as folding;
 
 // n: the rank after the records before at, broken. s: as it was before the section.

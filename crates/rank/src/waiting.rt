@@ -17,7 +17,6 @@ ghost use mathlib.Core.List.{_++_};
 ghost use Prim.Native.Nat.{_+_, _≤_, max};
 ghost use lib.ListN.{getD};
 ghost use Rattle.laws.specs.Eight.{table};
-ghost use Rattle.running.specs.Next as was;
 ghost use Rattle.running.specs.Ranges.{Small, lastEdge, farEdge};
 ghost use Rattle.edges.specs.Asks as asks;
 
