@@ -9,7 +9,7 @@ use Rattle.bits.specs.Bits.{word48}
 use Rattle.header.specs.Bins.{binOf}
 use Rattle.header.specs.Bytes.{headerWord, fieldsRefusal, headerRefusal, parsedOf}
 use Rattle.codes.specs.Codes.{clOfCode, wrOfCode, al}
-use Rattle.registers.specs.Allowed.{spanOf, clFits, cwlFor, table0, table1, table2, table3, firstBad, badBit, allowed}
+use Rattle.registers.specs.Allowed.{spanOf, clFits, cwlFor, table0, table1, table2, table3, fieldsIn, firstBad, badBit, allowed}
 use Rattle.registers.specs.Reading.{values0, valuesOf, decodedOf}
 use Rattle.bursts.specs.Burst.{orderOf}
 use Rattle.records.specs.Record.{fieldsOf as recordFields}
@@ -34,15 +34,15 @@ use Rattle.cases.proofs.Early.{early, judged-early}
 -- ── P8, P9, P10 ─────────────────────────────────────────────────────────────────────────────
 
 p8 : Holds (judged (recorded bytesP8) 529 (broken 10 7 6 529 5 4))
-unfolding up down binOf headerWord fieldsRefusal headerRefusal word48 clOfCode wrOfCode al spanOf clFits cwlFor table0 table1 table2 table3 firstBad badBit allowed recordFields byPins falling rising commandOf chipOf hOf bOf regs start seen orElse lowest asleep awakeTo awakeAt owedTo owedAt keep early recordsRefusal wholeRefusal
+unfolding up down binOf headerWord fieldsRefusal headerRefusal word48 clOfCode wrOfCode al spanOf clFits cwlFor table0 table1 table2 table3 fieldsIn firstBad badBit allowed recordFields byPins falling rising commandOf chipOf hOf bOf regs start seen orElse lowest asleep awakeTo awakeAt owedTo owedAt keep early recordsRefusal wholeRefusal
 p8 = judged-whole bytesP8 529 _ refl (judged-early headerP1 bytesP8 529 _ refl refl)
 
 p9 : Holds (judged (recorded bytesP9) 530 (clean 7 530))
-unfolding up down binOf headerWord fieldsRefusal headerRefusal word48 clOfCode wrOfCode al spanOf clFits cwlFor table0 table1 table2 table3 firstBad badBit allowed recordFields byPins falling rising commandOf chipOf hOf bOf regs start seen orElse lowest asleep awakeTo awakeAt owedTo owedAt keep early recordsRefusal wholeRefusal
+unfolding up down binOf headerWord fieldsRefusal headerRefusal word48 clOfCode wrOfCode al spanOf clFits cwlFor table0 table1 table2 table3 fieldsIn firstBad badBit allowed recordFields byPins falling rising commandOf chipOf hOf bOf regs start seen orElse lowest asleep awakeTo awakeAt owedTo owedAt keep early recordsRefusal wholeRefusal
 p9 = judged-whole bytesP9 530 _ refl (judged-early headerP1 bytesP9 530 _ refl refl)
 
 p10 : Holds (judged (recorded bytesP10) 539 (broken 5 9 8 539 9 5))
-unfolding up down binOf headerWord fieldsRefusal headerRefusal word48 clOfCode wrOfCode al spanOf clFits cwlFor table0 table1 table2 table3 firstBad badBit allowed recordFields byPins falling rising commandOf chipOf hOf bOf regs start seen orElse lowest asleep awakeTo awakeAt owedTo owedAt keep early recordsRefusal wholeRefusal
+unfolding up down binOf headerWord fieldsRefusal headerRefusal word48 clOfCode wrOfCode al spanOf clFits cwlFor table0 table1 table2 table3 fieldsIn firstBad badBit allowed recordFields byPins falling rising commandOf chipOf hOf bOf regs start seen orElse lowest asleep awakeTo awakeAt owedTo owedAt keep early recordsRefusal wholeRefusal
 p10 = judged-whole bytesP10 539 _ refl (judged-early headerP1 bytesP10 539 _ refl refl)
 
 -- the line that the program prints, by its theorem: that of the verdict
@@ -69,7 +69,7 @@ _also_ : {A B : Type 0} → A → B → A × B
 a also b = (a, b)
 
 pub examples-hold : AllHold table
-unfolding table up down binOf headerWord fieldsRefusal headerRefusal parsedOf word48 clOfCode wrOfCode al spanOf clFits cwlFor table0 table1 table2 table3 firstBad badBit allowed values0 valuesOf decodedOf orderOf recordFields byPins falling rising commandOf chipOf hOf bOf regs start seen orElse lowest asleep awakeTo awakeAt owedTo owedAt keep early
+unfolding table up down binOf headerWord fieldsRefusal headerRefusal parsedOf word48 clOfCode wrOfCode al spanOf clFits cwlFor table0 table1 table2 table3 fieldsIn firstBad badBit allowed values0 valuesOf decodedOf orderOf recordFields byPins falling rising commandOf chipOf hOf bOf regs start seen orElse lowest asleep awakeTo awakeAt owedTo owedAt keep early
 examples-hold =
     refl also refl also refl also refl also refl also refl also refl also refl also refl
     also refl also refl also refl also refl also refl also refl also refl also refl

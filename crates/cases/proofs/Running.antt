@@ -14,7 +14,7 @@ use Rattle.bits.specs.Bits.{word48}
 use Rattle.header.specs.Bins.{binOf}
 use Rattle.header.specs.Bytes.{headerWord, fieldsRefusal, headerRefusal, parsedOf}
 use Rattle.codes.specs.Codes.{clOfCode, wrOfCode, al}
-use Rattle.registers.specs.Allowed.{spanOf, clFits, cwlFor, table0, table1, table2, table3, firstBad, badBit, allowed}
+use Rattle.registers.specs.Allowed.{spanOf, clFits, cwlFor, table0, table1, table2, table3, fieldsIn, firstBad, badBit, allowed}
 use Rattle.records.specs.Record.{fieldsOf}
 use Rattle.records.specs.Command.{byPins, falling, rising, commandOf}
 use Rattle.chip.specs.Chip.{chipOf}
@@ -70,7 +70,7 @@ far bytes taken end late within v answer = judged-running (recorded []) headerP1
 pub far-hold :
     Holds (judged (recorded []) 46799 (clean 0 46799)) × (Holds (judged (recorded []) 46800 (broken 25 0 0 46800 8 9))
     × (Holds (judged (recorded bytesP12) 46691 (clean 5 46691)) × (Holds (judged (recorded bytesP12) 46692 (broken 24 0 5 46692 46666 46667)) × Unit {0})))
-unfolding wholeRefusal recordsRefusal headerWord fieldsRefusal headerRefusal up down binOf word48 clOfCode wrOfCode al spanOf clFits cwlFor table0 table1 table2 table3 firstBad badBit allowed fieldsOf byPins falling rising commandOf chipOf hOf bOf orElse lowest table statusOf rule2 rule3 waits spacings needing spaced better soonest sooner startNow due noEnd keptOf latestFrom lastStart readOf wroteOf shutOf restsOf sharedOf asksAct asksRd asksWr asksPre asksRef asksMrs asksSre waitsNext greatest banksNext actsNext deviceNext debtNext duesOf next24 spacedIn brokenIn saysBy saysOf movedOf stoppedOf stepOf soFar edgesOk rankInRange freshBanks freshWaits freshActs freshDevice freshRank nextLate verdictOf endOf inRange sectionOf closeOf
+unfolding wholeRefusal recordsRefusal headerWord fieldsRefusal headerRefusal up down binOf word48 clOfCode wrOfCode al spanOf clFits cwlFor table0 table1 table2 table3 fieldsIn firstBad badBit allowed fieldsOf byPins falling rising commandOf chipOf hOf bOf orElse lowest table statusOf rule2 rule3 waits spacings needing spaced better soonest sooner startNow due noEnd keptOf latestFrom lastStart readOf wroteOf shutOf restsOf sharedOf asksAct asksRd asksWr asksPre asksRef asksMrs asksSre waitsNext greatest banksNext actsNext deviceNext debtNext duesOf next24 spacedIn brokenIn saysBy saysOf movedOf stoppedOf stepOf soFar edgesOk rankInRange freshBanks freshWaits freshActs freshDevice freshRank nextLate verdictOf endOf inRange sectionOf closeOf
 far-hold = (
   judged-whole [] 46799 _ refl (far [] refl 46799 refl refl _ refl),
   (

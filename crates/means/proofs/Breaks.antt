@@ -6,6 +6,7 @@ use mathlib.Core.Path.{_≡_, refl, ap, _∙_}
 use mathlib.Core.Logic.{⊎-elim}
 use mathlib.Core.Bool.{Bool, true, false, _||_}
 use mathlib.Core.List.{[], _∷_}
+use Rattle.laws.specs.Among.{Among, first, next}
 use Rattle.answers.specs.declared.Break.{Break}
 use Rattle.answers.specs.declared.Break.the-variants.{Fine, Broken}
 use Rattle.records.specs.declared.Record.{Record}
@@ -17,7 +18,7 @@ use Rattle.rules.specs.Search.{asking}
 use Rattle.rules.specs.Rules.{Row, r4, r6, r7, r9, r10, r11, r12r, r12w, r13, r14, r15, r16, r17, r18, r19, r20, r21, r22, rule1, rule2, rule3, rule5, rule8, rule23, since, fourth, spacing, spaced, checks}
 use Rattle.rules.proofs.Generic.{decide, broken-fine, short-fine, fine-kept}
 use Rattle.rules.proofs.Events.{never}
-use Rattle.rules.proofs.Clean.{Among, first, next, lowest-fine, is-other, act-not-all}
+use Rattle.rules.proofs.Clean.{lowest-fine, is-other, act-not-all}
 use Rattle.rules.proofs.Starts.{since-kept}
 use Rattle.means.specs.Partners.{Latest, Fourth}
 use Rattle.means.specs.Pairs.{speaksOf, mayFind, Lacks, code, registers, reset, Closing-kind, own, any, Pair, other-change, in-the-way, lacking, too-soon, precharging, five-acts, no-refresh}

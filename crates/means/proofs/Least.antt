@@ -2,13 +2,13 @@
 -- Assumes nothing.
 use Prim.Native.Nat.{ℕ}
 use mathlib.Core.Path.{_≡_}
+use Rattle.laws.specs.Among.{Among}
 use Rattle.answers.specs.declared.Break.{Break}
 use Rattle.answers.specs.declared.Break.the-variants.{Broken}
 use Rattle.records.specs.declared.Record.{Record}
 use Rattle.chip.specs.declared.Chip.{Chip}
 use Rattle.rules.specs.Past.{Past}
 use Rattle.rules.specs.Rules.{Row, rule1, rule2, rule3, rule5, rule8, rule23, spacing, spaced, checks}
-use Rattle.rules.proofs.Clean.{Among}
 use Rattle.means.specs.Pairs.{Pair, other-change, in-the-way, lacking, too-soon, precharging, five-acts, no-refresh}
 use Rattle.means.proofs.Partners.{row-pair}
 use Rattle.means.proofs.Pairs.{pair1, pair2, pair3, pair5, pair8, pair23}

@@ -7,6 +7,7 @@ use mathlib.Core.Path.{_≡_, refl, sym, ap, _∙_}
 use mathlib.Core.Logic.{_↔_}
 use mathlib.Core.List.{[], _∷_}
 use borrow.Author.Tests.{eq-eqb, ne-eqb}
+use Rattle.laws.specs.Among.{Among, first, next}
 use Rattle.laws.proofs.Unique.{Unique, one-answer}
 use Rattle.answers.specs.declared.Break.{Break}
 use Rattle.answers.specs.declared.Break.the-variants.{Fine, Broken}
@@ -17,7 +18,6 @@ use Rattle.rules.specs.Rules.{checks}
 use Rattle.rules.specs.Deadlines.{rule24, rule25}
 use Rattle.rules.specs.Verdict.{Outcome, clean, stop, keep, told, Check, ofRecord, deadline, recordSays, checkSays, edgeChecks, brokenAt, verdictTo, Apart}
 use Rattle.rules.proofs.Generic.{edge-le}
-use Rattle.rules.proofs.Clean.{Among, first, next}
 use Rattle.rules.proofs.Numbered.{stop-clean}
 use Rattle.rules.proofs.Sense.{verdict-next, skip-to, clean-iff, stop-at, stop-after, earliest}
 use Rattle.means.specs.Breaks.{BreaksAt, by-record, by-limit, by-debt}

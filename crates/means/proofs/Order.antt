@@ -8,6 +8,7 @@ use mathlib.Core.Bool.{true, false}
 use mathlib.Core.List.{List, [], _∷_}
 use lib.Dec.{eqb, leb}
 use borrow.Author.Tests.{eqb-true, leb-true}
+use Rattle.laws.specs.Among.{Among, first, next}
 use Rattle.answers.specs.declared.Break.{Break}
 use Rattle.answers.specs.declared.Break.the-variants.{Fine, Broken}
 use Rattle.records.specs.declared.Record.{Record}
@@ -17,7 +18,6 @@ use Rattle.rules.specs.Rules.{Row, r4, r6, r7, r9, r10, r11, r12r, r12w, r13, r
 use Rattle.rules.specs.Deadlines.{rule24, rule25}
 use Rattle.rules.specs.Verdict.{Outcome, clean, stop, keep, told, Check, ofRecord, deadline, recordSays, checkSays, firstOf, ofRecords, edgeChecks, brokenAt}
 use Rattle.rules.proofs.Generic.{decide, broken-fine}
-use Rattle.rules.proofs.Clean.{Among, first, next}
 use Rattle.rules.proofs.Numbered.{stop-clean, keep-clean}
 use Rattle.means.specs.Means.{How, record-did, limit-passed, debt-grew}
 use Rattle.means.proofs.Least.{Says, says1, says2, says3, says5, says8, says23, says-row}

@@ -1,12 +1,8 @@
 // What PRE of all banks, REF, ZQ, MRS, SRE and SRX ask for, and leave behind.
 use crate::numbers::most_of;
-use crate::numbers::one_of;
-use chip::Chip;
-use edges::Debt;
 use edges::Floor;
 use header::Header;
 use kept::since;
-use records::Command;
 use records::Record;
 use registers::Decoded;
 ghost use mathlib.Core.Bool.{true};

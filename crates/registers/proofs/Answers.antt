@@ -1,7 +1,6 @@
 -- The answer of register reading, put together from the answers of its parts; and one answer for each public contract.
 -- Assumes nothing.
 use Prim.Native.Nat.{ℕ, _+_, _*_, _<_, _≤_}
-use native.Mathlib.Omega.{arith}
 use mathlib.Core.Bool.{Bool, true, false, cond}
 use mathlib.Core.List.{List, _∷_, [], _++_}
 use mathlib.Core.Path.{_≡_, refl, sym, ap, subst, _∙_}
@@ -20,11 +19,7 @@ use Rattle.registers.specs.declared.Values.{Values}
 use Rattle.registers.specs.declared.Decoded.{Decoded}
 use Rattle.registers.specs.declared.Decoded.the-variants.{Register, Bit}
 use Rattle.registers.specs.Reading.{decodedOf, Answer, refusal, answerOf, readUnder, readOf}
-use Rattle.registers.specs.Contracts.{Decode, Read}
-
--- what a call writes by an answer
-abbrev pub Gives : Answer → (before : List ℕ) (r : ℕ) (after : List ℕ) → Type 0
-Gives a before r after = Wrote (a .number) (a .bytes) before r after
+use Rattle.registers.specs.Contracts.{Decode, Gives, Read}
 
 -- a refusal writes nothing, whatever its number
 nothing : (k : ℕ) (before : List ℕ) → Gives (refusal k) before k before

@@ -86,6 +86,10 @@ table3 c =
     zeroAt c 0 ∷ zeroAt c 1 ∷ zeroAt c 2 ∷ zeroAt c 3 ∷ zeroAt c 4 ∷ zeroAt c 5 ∷ zeroAt c 6 ∷ zeroAt c 7
     ∷ zeroAt c 8 ∷ zeroAt c 9 ∷ zeroAt c 10 ∷ from11 c
 
+-- by the register's number
+unfoldable pub fieldsIn : Header → (number code : ℕ) → List Field
+fieldsIn h n c = cond (eqb n 0) (table0 h c) (cond (eqb n 1) (table1 h c) (cond (eqb n 2) (table2 h c) (table3 c)))
+
 -- no bit: every field is allowed
 abbrev pub noBit : ℕ
 noBit = 17
@@ -97,12 +101,7 @@ firstBad (f ∷ fs) = cond (f .ok) (firstBad fs) (f .low)
 
 -- Q-5: "the lowest-numbered address bit belonging to a field that isn't allowed", "16 when the register number is wrong"
 unfoldable pub badBit : Header → (number code : ℕ) → ℕ
-badBit h n c =
-    cond (eqb n 0) (firstBad (table0 h c))
-    (cond (eqb n 1) (firstBad (table1 h c))
-    (cond (eqb n 2) (firstBad (table2 h c))
-    (cond (eqb n 3) (firstBad (table3 c))
-    16)))
+badBit h n c = cond (ltb 3 n) 16 (firstBad (fieldsIn h n c))
 
 unfoldable pub allowed : Header → (number code : ℕ) → Bool
 allowed h n c = eqb (badBit h n c) noBit

@@ -24,10 +24,18 @@ const SPANS: [[u64; 4]; 13] = [
     [1070, 1250, 3, 3],
 ];
 
-// The lowest bit of a field that is not allowed, 16 above register 3, 17 where every field is allowed.
+// What is named in the place of a bit: there is no such register; every field is allowed.
+const NO_REGISTER: u8 = 16;
+
+pub(crate) const NO_BIT: u8 = 17;
+
+// The lowest bit of a field that is not allowed.
 pub(crate) fn bad_bit(h: Header, number: u32, code: u16) -> u8
     ensures { λ r. ⌜ r ≡ allows.badBit h number code ⌝ }
 {
+    if 3 < number {
+        return NO_REGISTER;
+    }
     if number == 0 {
         return bad0(h, code);
     }
@@ -37,10 +45,7 @@ pub(crate) fn bad_bit(h: Header, number: u32, code: u16) -> u8
     if number == 2 {
         return bad2(h, code);
     }
-    if number == 3 {
-        return bad3(code);
-    }
-    16
+    bad3(code)
 }
 
 fn bad0(h: Header, code: u16) -> u8
@@ -82,7 +87,7 @@ fn bad3(code: u16) -> u8
     ensures { λ r. ⌜ r ≡ allows.firstBad (allows.table3 code) ⌝ }
 {
     if code == 0 {
-        return 17;
+        return NO_BIT;
     }
     let from10 = or_bit(10, code / 1024 % 2 == 0, from11(code));
     let from9 = or_bit(9, code / 512 % 2 == 0, from10);
@@ -102,7 +107,7 @@ fn from11(code: u16) -> u8
     ensures { λ r. ⌜ r ≡ allows.firstBad (allows.from11 code) ⌝ }
 {
     if code < 2048 {
-        return 17;
+        return NO_BIT;
     }
     let from12 = or_bit(12, code / 4096 % 2 == 0, from13(code));
     or_bit(11, code / 2048 % 2 == 0, from12)
@@ -113,9 +118,9 @@ fn from13(code: u16) -> u8
     ensures { λ r. ⌜ r ≡ allows.firstBad (allows.from13 code) ⌝ }
 {
     if code < 8192 {
-        return 17;
+        return NO_BIT;
     }
-    let from15 = or_bit(15, code / 32768 % 2 == 0, 17);
+    let from15 = or_bit(15, code / 32768 % 2 == 0, NO_BIT);
     let from14 = or_bit(14, code / 16384 % 2 == 0, from15);
     or_bit(13, code / 8192 % 2 == 0, from14)
 }

@@ -1,13 +1,11 @@
 // Register reading: a header, a register's number and a code to six bytes.
 use crate::Decoded;
 use crate::decoding::decode;
-use header::Header;
 use header::Parsed;
 ghost use Prim.Native.Nat.{_≤_};
 ghost use lib.ListN.{length};
-ghost use Rattle.laws.specs.Lent.{Wrote};
-ghost use Rattle.registers.specs.Contracts.{Read};
-ghost use Rattle.registers.specs.Reading as reads;
+ghost use Rattle.registers.specs.Contracts.{Gives, Read};
+ghost use Rattle.registers.specs.Reading.{answerOf};
 
 // Checks 9, 1, 2, 3, 4, 11 in this order; then writes six bytes and answers 0. A refusal writes nothing.
 pub fn read(header: &[u8], number: u32, code: u16, out: &mut [u8]) -> u32
@@ -25,7 +23,7 @@ pub fn read(header: &[u8], number: u32, code: u16, out: &mut [u8]) -> u32
 
 fn put(decoded: Decoded, out: &mut [u8]) -> u32
     requires { ⌜ 6 ≤ length (now out) ⌝ }
-    ensures { λ r. ⌜ Wrote (reads.answerOf decoded .number) (reads.answerOf decoded .bytes) (now (out .entry)) r (now (out .exit)) ⌝ }
+    ensures { λ r. ⌜ Gives (answerOf decoded) (now (out .entry)) r (now (out .exit)) ⌝ }
 {
     match decoded {
         Decoded::Register(v) => {

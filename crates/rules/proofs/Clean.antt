@@ -9,6 +9,7 @@ use mathlib.Core.Bool.{Bool, true, false, cond, _&&_, _||_}
 use mathlib.Core.List.{List, [], _∷_, tail}
 use lib.Dec.{eqb}
 use borrow.Author.Tests.{eqb-true, ne-eqb}
+use Rattle.laws.specs.Among.{Among, first, next}
 use Rattle.laws.proofs.Both.{both}
 use Rattle.answers.specs.declared.Bank.{Bank}
 use Rattle.answers.specs.declared.Bank.the-variants.{Idle, Open, Closing}
@@ -26,11 +27,6 @@ use Rattle.rules.specs.Banks.{closes, touches, isIdle, isOpen, notClosin
 use Rattle.rules.specs.Rules.{may, concerns, barred, rule2, checks, breakAt}
 use Rattle.rules.proofs.Generic.{decide, broken-fine, fine-kept, edge-le}
 use Rattle.rules.proofs.Events.{never, either, orElse-fine}
-
--- f is one of fs
-pub data Among {A : Type 0} (f : A) : List A → Type 0 where
-  first : {fs : List A} → Among f (f ∷ fs)
-  next : {g : A} {fs : List A} → Among f fs → Among f (g ∷ fs)
 
 pub among-fine : {f : Record → Past → Break} {fs : List (Record → Past → Break)} (r : Record) (p : Past) → Among f fs → breakAt fs r p ≡ Fine → f r p ≡ Fine
 among-fine r p first h = orElse-fine _ _ h .0

@@ -8,6 +8,7 @@ use mathlib.Core.Bool.{Bool, true, false, cond, _&&_, _||_}
 use mathlib.Core.List.{[], _∷_}
 use lib.Dec.{eqb}
 use borrow.Author.Tests.{eqb-true, eq-eqb}
+use Rattle.laws.specs.Among.{first, next}
 use Rattle.laws.proofs.Both.{both}
 use Rattle.records.specs.declared.Record.{Record}
 use Rattle.records.specs.declared.Command.the-variants.{Mrs, Act, Wr, Rd, Zq}
@@ -20,7 +21,7 @@ use Rattle.rules.specs.Banks.{actOn, touches, isIdle, start, status}
 use Rattle.rules.specs.Rules.{covered, spacing, r6, r11, r12r, r12w, r14, r18, r19}
 use Rattle.rules.proofs.Generic.{decide, edge-le, Dominated}
 use Rattle.rules.proofs.Events.{never, unchanged-or, ∈-trans, part-same}
-use Rattle.rules.proofs.Clean.{Clean, first, next, Spaced, is-other, is-command, ClosedBy, by-pre, by-rd, by-wr, closing-by, clean-tail, clean-spaced}
+use Rattle.rules.proofs.Clean.{Clean, Spaced, is-other, is-command, ClosedBy, by-pre, by-rd, by-wr, closing-by, clean-tail, clean-spaced}
 use Rattle.rules.proofs.Starts.{start-pre, start-rd, start-wr, start-after}
 use Rattle.rules.proofs.Facts.{Fit, Sound}
 use Rattle.rules.proofs.Fits.{idle-closed, active-not-idle, allowed-as, fit-at, fit-in}

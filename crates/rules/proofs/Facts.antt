@@ -13,7 +13,7 @@ use Rattle.units.proofs.Rounding.{up-least, up-mono, up-more, down-greatest}
 use Rattle.header.specs.declared.Header.{Header}
 use Rattle.header.specs.Bins.{Bin, binOf}
 use Rattle.header.proofs.Bounds.{by-bin}
-use Rattle.codes.specs.Codes.{bit, burst, cl, wr}
+use Rattle.codes.specs.Codes.{cl, wr}
 use Rattle.registers.specs.Allowed.{Span, span, spanOf, clFits, allowed}
 use Rattle.registers.proofs.Facts.{allowed0}
 use Rattle.chip.specs.declared.Chip.{Chip}

@@ -6,8 +6,9 @@ use mathlib.Core.Path.{_≡_, refl, sym, ap, _∙_, subst}
 use mathlib.Core.Logic.{⊎-elim}
 use mathlib.Core.Bool.{Bool, true, false, _&&_, _||_}
 use mathlib.Core.List.{[], _∷_, tail}
-use lib.Dec.{ltb, leb}
+use lib.Dec.{leb}
 use borrow.Author.Tests.{leb-true, eqb-true, eq-eqb}
+use Rattle.laws.specs.Among.{Among, first, next}
 use Rattle.laws.proofs.Both.{both}
 use Rattle.answers.specs.declared.Break.the-variants.{Fine}
 use Rattle.records.specs.declared.Record.{Record}
@@ -22,7 +23,7 @@ use Rattle.rules.specs.Banks.{actOn, closes, touches, isIdle, isOpen, st
 use Rattle.rules.specs.Rules.{may, concerns, demand, rule3, checks}
 use Rattle.rules.proofs.Generic.{decide, broken-fine}
 use Rattle.rules.proofs.Events.{never, either, latest-is}
-use Rattle.rules.proofs.Clean.{Clean, Among, first, next, among-fine, is-other, is-command, allowed, clean-tail, clean-now, clean-in}
+use Rattle.rules.proofs.Clean.{Clean, among-fine, is-other, is-command, allowed, clean-tail, clean-now, clean-in}
 use Rattle.rules.proofs.Facts.{Fit}
 
 pub has-in : (k : Past → Bool) {s p : Past} → s ∈ p → has k (tail s) ≡ true → has k p ≡ true
@@ -37,7 +38,7 @@ has-in k (there {r = r} {p = p} i) h = go (k (r ∷ p)) (has k p) (has-in k i h)
     go true y e = refl
     go false y e = e
 
-pub demanded : (x : Bool) (f : ℕ) → demand x f ≡ Fine → x ≡ true
+demanded : (x : Bool) (f : ℕ) → demand x f ≡ Fine → x ≡ true
 demanded true f h = refl
 demanded false f h = absurd (broken-fine h)
 

@@ -4,12 +4,6 @@ use Rattle.laws.proofs.Both.{both}
 use borrow.Author.Needs.{needs}
 use Rattle.rank.proofs.asking.may.Statement.{statement}
 use Rattle.rank.proofs.asking.may.Tie as tie
-use Rattle.rank.proofs.asking.may.Reads as reads
-use Rattle.rank.proofs.asking.may.Lts as lts
-use Rattle.rank.proofs.seldom.may_all.Reads as may-all-reads
-use Rattle.rank.proofs.seldom.may_rest.Reads as may-rest-reads
-use Rattle.rank.proofs.seldom.may_set.Reads as may-set-reads
-use Rattle.rank.proofs.seldom.may_wake.Reads as may-wake-reads
 
 enum-told : tie.Need-enum-told
 enum-told c = search needs

@@ -4,9 +4,6 @@ use Rattle.laws.proofs.Both.{neither}
 use borrow.Author.Needs.{needs}
 use Rattle.rank.proofs.seldom.may_all.Statement.{statement}
 use Rattle.rank.proofs.seldom.may_all.Tie as tie
-use Rattle.rank.proofs.seldom.may_all.Reads as reads
-use Rattle.rank.proofs.seldom.may_all.Lts as lts
-use Rattle.rank.proofs.seldom.calm.Reads as calm-reads
 
 returns : tie.Need-returns
 returns c = λ h. absurd (false≢true h)

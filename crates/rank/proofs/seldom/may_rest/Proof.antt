@@ -4,9 +4,6 @@ use Rattle.laws.proofs.Both.{neither}
 use borrow.Author.Needs.{needs}
 use Rattle.rank.proofs.seldom.may_rest.Statement.{statement}
 use Rattle.rank.proofs.seldom.may_rest.Tie as tie
-use Rattle.rank.proofs.seldom.may_rest.Reads as reads
-use Rattle.rank.proofs.seldom.may_rest.Lts as lts
-use Rattle.rank.proofs.seldom.idle.Reads as idle-reads
 
 returns : tie.Need-returns
 returns c = λ h. absurd (false≢true h)
