@@ -52,6 +52,9 @@ void count_clocks(struct counts *t, const struct header *h)
     t->zq_short = up(period, 80000, 64);
     t->most_ras = 70000000 / period;
     t->refi = (h->hot ? 3900000 : 7800000) / period;
+    t->xp = up(period, bin == 0 ? 7500 : 6000, 3);
+    t->xpdll = up(period, 24000, 10);
+    t->stay = 9 * t->refi;
 }
 
 /* By A6A5A4A2; 0 is no latency. */
@@ -125,6 +128,7 @@ static void read_kind(struct kind *kind, const struct counts *t, const uint16_t 
     kind->needs.pre = (uint16_t)(al + t->rtp);
     kind->needs.other = (uint16_t)(cl - cwl + 2 + half);
     kind->needs.set = (uint16_t)(al + cl + half);
+    kind->needs.entry = (uint16_t)(al + cl + 5);
     kind->start_from_act = t->ras;
     kind->start_from_here = al + t->rtp;
 }
@@ -135,6 +139,7 @@ static void write_kind(struct kind *kind, const struct counts *t, const uint16_t
     kind->needs.pre = (uint16_t)(wl + half + t->wr);
     kind->needs.other = (uint16_t)(cwl + half + t->wtr);
     kind->needs.set = 0;
+    kind->needs.entry = kind->needs.pre;
     kind->start_from_act = 0;
     kind->start_from_here = wl + half + WRITE_RECOVERY[code[0] >> 9 & 7];
 }

@@ -20,31 +20,40 @@ static inline int64_t sooner(int64_t a, int64_t b)
 
 /* ---- deadlines */
 
-/* The edge of the soonest one, and the late bank if it is rule 24's. */
-static int64_t soonest_deadline(const struct judge *j, const struct bank **late)
+/* The edge at which a rule breaks if nothing comes. */
+struct deadline {
+    int64_t at;
+    int rule;
+    uint32_t partner;
+    int32_t limit;
+};
+
+/* Of several at one edge that of the lowest rule. */
+static struct deadline soonest_deadline(const struct judge *j)
 {
-    int64_t soonest = j->cke ? j->debt_due : NEVER;
+    struct deadline soonest = {NEVER, 28, 0, 0}, debt = {j->debt_due, 25, j->ref.number, MOST_DEBT - 1};
     int i;
-    *late = 0;
+    if (j->mode == DOWN) {
+        soonest.at = j->entry.at + j->t.stay + 1;
+        soonest.partner = j->entry.number;
+        soonest.limit = j->t.stay;
+    }
+    if (j->mode != ASLEEP && debt.at <= soonest.at)
+        soonest = debt;
     for (i = 0; i < BANKS; i++) {
         const struct bank *b = &j->bank[i];
-        int64_t due = b->start == NEVER || b->late ? b->act.at + j->t.most_ras + 1 : NEVER;
-        if (due <= soonest && due != NEVER) {
-            soonest = due;
-            *late = b;
-        }
+        struct deadline open = {b->act.at + j->t.most_ras + 1, 24, b->act.number, j->t.most_ras};
+        if ((b->start == NEVER || b->late) && open.at <= soonest.at)
+            soonest = open;
     }
     return soonest;
 }
 
-static void say_late(struct judge *j, int64_t edge, const struct bank *late)
+static void say_late(struct judge *j, struct deadline due)
 {
     int64_t last = j->edge;
-    j->edge = edge;
-    if (late)
-        say(j, 24, 0, late->act.number, j->t.most_ras, j->t.most_ras + 1);
-    else
-        say(j, 25, 0, j->ref.number, MOST_DEBT - 1, MOST_DEBT);
+    j->edge = due.at;
+    say(j, due.rule, 0, due.partner, due.limit, due.limit + 1);
     j->edge = last;
 }
 
@@ -70,16 +79,15 @@ static int __attribute__((cold)) rules_break(struct judge *j, struct record r)
     return breaks_a_rule(j, r.command, r.ba, r.a);
 }
 
-/* A deadline at the record's own edge comes after the rules, and a REF is still in time for rule 25. */
+/* A deadline at the record's own edge comes after the rules below it, and a REF is still in time for rule 25. */
 static int __attribute__((cold)) deadline_breaks(struct judge *j, struct record r)
 {
-    const struct bank *late;
-    int64_t due = soonest_deadline(j, &late);
-    j->soonest = sooner(due, r.edge + j->t.most_ras + 1);
-    if (due > r.edge || (due == r.edge && !late && r.command == REF))
+    struct deadline due = soonest_deadline(j);
+    j->soonest = sooner(due.at, r.edge + j->t.most_ras + 1);
+    if (due.at > r.edge || (due.at == r.edge && due.rule == 25 && r.command == REF))
         return 0;
-    if (due < r.edge || !rules_break(j, r))
-        say_late(j, due, late);
+    if (due.at < r.edge || !rules_break(j, r) || j->first.rule > due.rule)
+        say_late(j, due);
     return 1;
 }
 
@@ -128,6 +136,10 @@ static inline int column(struct judge *j, struct bank *b, struct record r)
         shut(j, b, start, r.number);
         b->pre_from = later(b->pre_from, start);
         b->late = start > b->act.at + j->t.most_ras;
+        if (d == WRITE) {
+            j->auto_write = mark(r, kind->start_from_here + 1);
+            b->column[d].needs.entry = (uint16_t)j->auto_write.need;
+        }
     }
     return 0;
 }
@@ -219,11 +231,14 @@ static inline int set_mode(struct judge *j, struct record r)
 
 static inline int fall_asleep(struct judge *j, struct record r)
 {
-    if ((r.edge < all_idle_from(j) || r.edge < j->quiet || r.edge < read_out(j) || j->refresh_owed) && rules_break(j, r))
+    if ((r.edge < all_idle_from(j) || r.edge < j->quiet || r.edge < read_out(j) || j->refresh_owed ||
+         r.edge < j->changed.at + j->t.cke) &&
+        rules_break(j, r))
         return 1;
     j->slept = mark(r, j->t.cke + 1);
+    j->changed = mark(r, j->t.cke);
     j->debt_due -= r.edge;
-    j->cke = 0;
+    j->mode = ASLEEP;
     return 0;
 }
 
@@ -232,6 +247,7 @@ static inline int wake(struct judge *j, struct record r)
     if (r.edge < j->slept.at + j->slept.need && rules_break(j, r))
         return 1;
     j->woke = mark(r, j->t.xs);
+    j->changed = mark(r, j->t.cke);
     j->reset = mark(r, DLL_LOCK);
     j->refresh_owed = 1;
     hold_all(j, r.edge + j->t.xs);
@@ -239,17 +255,49 @@ static inline int wake(struct judge *j, struct record r)
         j->column_from[READ] = r.edge + DLL_LOCK;
     j->debt_due += r.edge;
     j->soonest = sooner(j->soonest, j->debt_due);
-    j->cke = 1;
+    j->mode = AWAKE;
     return 0;
 }
 
-/* By CKE before; CKE now, CS, RAS, CAS, WE. DES, and whatever comes while CKE stays low, is as good as NOP. */
+static inline int power_down(struct judge *j, struct record r)
+{
+    int i;
+    if (rules_break(j, r))
+        return 1;
+    j->entry = j->changed = mark(r, j->t.cke);
+    j->closed = 1;
+    for (i = 0; i < BANKS; i++)
+        j->closed &= j->bank[i].start != NEVER;
+    j->soonest = sooner(j->soonest, r.edge + j->t.stay + 1);
+    j->mode = DOWN;
+    return 0;
+}
+
+/* With A12 of MR0 low the DLL is off in precharge power-down, and a RD has to wait for it. */
+static inline int power_up(struct judge *j, struct record r)
+{
+    if (rules_break(j, r))
+        return 1;
+    j->changed = mark(r, j->t.cke);
+    j->left = mark(r, j->t.xp);
+    j->quiet = later(j->quiet, r.edge + j->t.xp);
+    j->set_from = later(j->set_from, r.edge + j->t.xp);
+    if (j->closed && (j->written & 1) != 0 && (j->code[0] >> 12 & 1) == 0) {
+        j->slow = mark(r, j->t.xpdll);
+        j->column_from[READ] = later(j->column_from[READ], r.edge + j->t.xpdll);
+    }
+    j->mode = AWAKE;
+    return 0;
+}
+
+/* By what the part does; CKE now, CS, RAS, CAS, WE. DES, and whatever comes while CKE stays low, is as good as NOP. */
 #define EIGHT(command) command, command, command, command, command, command, command, command
-static const uint8_t COMMAND[2][32] = {
-    {EIGHT(NOP), EIGHT(NOP),
-     FORBIDDEN, FORBIDDEN, FORBIDDEN, FORBIDDEN, FORBIDDEN, FORBIDDEN, FORBIDDEN, SRX, EIGHT(SRX)},
-    {FORBIDDEN, SRE, FORBIDDEN, FORBIDDEN, FORBIDDEN, FORBIDDEN, FORBIDDEN, FORBIDDEN, EIGHT(FORBIDDEN),
+#define SEVEN_FORBIDDEN FORBIDDEN, FORBIDDEN, FORBIDDEN, FORBIDDEN, FORBIDDEN, FORBIDDEN, FORBIDDEN
+static const uint8_t COMMAND[3][32] = {
+    {EIGHT(NOP), EIGHT(NOP), SEVEN_FORBIDDEN, SRX, EIGHT(SRX)},
+    {FORBIDDEN, SRE, FORBIDDEN, FORBIDDEN, FORBIDDEN, FORBIDDEN, FORBIDDEN, PDE, EIGHT(PDE),
      MRS, REF, PRE, ACT, WR, RD, ZQ, NOP, EIGHT(NOP)},
+    {EIGHT(NOP), EIGHT(NOP), SEVEN_FORBIDDEN, PDX, EIGHT(PDX)},
 };
 
 static inline int breaks(struct judge *j, struct record r)
@@ -267,6 +315,8 @@ static inline int breaks(struct judge *j, struct record r)
     case ZQ: return calibrate(j, r);
     case SRE: return fall_asleep(j, r);
     case SRX: return wake(j, r);
+    case PDE: return power_down(j, r);
+    case PDX: return power_up(j, r);
     default: return rules_break(j, r);
     }
 }
@@ -290,7 +340,7 @@ static int take(struct judge *j, const uint8_t *at, const uint8_t *end)
         struct record r;
         if (four >> 8 == 0)
             return 6;
-        r.command = (enum command)COMMAND[j->cke][four >> 3 & 31];
+        r.command = (enum command)COMMAND[j->mode][four >> 3 & 31];
         r.ba = four & 7;
         r.a = (unsigned)at[4] << 8 | at[5];
         r.edge = edge += four >> 8;
@@ -329,9 +379,10 @@ int judge_open(struct judge *j, const uint8_t *header, size_t length)
     for (i = 0; i < 4; i++)
         j->acts[i] = none;
     j->ref = j->mrs = j->zq = j->reset = j->woke = j->slept = none;
+    j->changed = j->entry = j->left = j->slow = j->auto_write = none;
     j->quiet = j->set_from = j->column_from[WRITE] = LONG_AGO;
     j->act_from = j->column_from[READ] = NEVER;
-    j->cke = 1;
+    j->mode = AWAKE;
     j->debt_due = MOST_DEBT * (int64_t)j->t.refi;
     j->soonest = sooner(j->debt_due, j->t.most_ras + 1);
     return 0;
@@ -350,13 +401,11 @@ int judge_close(const struct judge *j, int64_t end, struct verdict *verdict)
 {
     struct judge last = *j;
     struct verdict clean = {0, 0, j->count, 0, end, 0, 0};
-    const struct bank *late;
-    int64_t soonest;
+    struct deadline soonest = soonest_deadline(j);
     if (end < j->edge || (uint64_t)end > GREATEST_END)
         return 8;
-    soonest = soonest_deadline(j, &late);
-    if (!last.first.broken && soonest <= end)
-        say_late(&last, soonest, late);
+    if (!last.first.broken && soonest.at <= end)
+        say_late(&last, soonest);
     *verdict = last.first.broken ? last.first : clean;
     return 0;
 }

@@ -1,4 +1,4 @@
-/* A judge of DDR3 command recordings in plain C, to be measured beside the proved one: the same 25 rules, the same
+/* A judge of DDR3 command recordings in plain C, to be measured beside the proved one: the same 30 rules, the same
  * refusals, a running state that keeps no record. Written from the rules paper; nothing in it is proved. */
 #ifndef BENCH_JUDGE_H
 #define BENCH_JUDGE_H
@@ -18,11 +18,13 @@ struct header {
 /* A header's times in clocks. */
 struct counts {
     int32_t rcd, rp, rc, ras, rrd, faw, cke, rtp, wtr, wr, mod, rfc, xs, zq_long, zq_short, most_ras, refi;
+    int32_t xp, xpdll, stay;
 };
 
-/* The clocks that a RD or WR needs to a PRE of its bank, to a column of the other direction, and a RD to MRS or SRE. */
+/* The clocks that a RD or WR needs to a PRE of its bank, to a column of the other direction, to a power-down entry, and a
+ * RD to MRS or SRE. */
 struct needs {
-    uint16_t pre, other, set, none;
+    uint16_t pre, other, set, entry;
 };
 
 /* What a RD or WR of one kind leaves under the registers in force. Its own precharge starts at the later of so many clocks
@@ -47,6 +49,9 @@ struct column {
 
 enum direction { READ, WRITE };
 
+/* What the part does behind the latest record: in self-refresh, with CKE high, in power-down. */
+enum mode { ASLEEP, AWAKE, DOWN };
+
 /* The edges from which the rules that look at the bank alone let ACT, a column and PRE pass. start: of the latest
  * precharge, NEVER while the bank is open; shut_by: its record. late: it starts after rule 24's limit. */
 struct bank {
@@ -69,9 +74,9 @@ struct judge {
     struct counts t;
     int64_t edge;
     uint32_t count;
-    int cke;
+    enum mode mode;
     int64_t soonest; /* no deadline is sooner */
-    int64_t quiet;   /* from here on rules 15, 17, 18 and 21 let every command pass */
+    int64_t quiet;   /* from here on rules 15, 17, 18, 21 and 29 let every command pass */
     int64_t act_from, column_from[2], set_from; /* as far as the rules look at all banks; NEVER of ACT after an MRS */
     struct kind kind[4]; /* RD with A12 low, RD with A12 high, WR, WR */
     int32_t to_column;
@@ -80,6 +85,9 @@ struct judge {
     unsigned oldest;
     unsigned latest[2]; /* the bank of the latest RD and of the latest WR */
     struct mark ref, mrs, zq, reset, woke, slept;
+    struct mark changed, entry, left, slow; /* CKE's latest change, power-down's entry and exit, the latest that rule 30 counts from */
+    struct mark auto_write; /* the latest WR with auto precharge: rule 26 may ask more of it than of a later WR */
+    int closed; /* no bank was open at the entry */
     int64_t debt_due; /* the edge at which rule 25 breaks; while asleep what is left to it */
     unsigned written; /* a bit for each register, and one for a DLL reset */
     uint16_t code[4];
@@ -102,8 +110,8 @@ int bad_bit(const struct header *h, const struct counts *t, unsigned number, uns
 int32_t act_to_column(const struct counts *t, const uint16_t *code);
 void column_kinds(struct kind *kind, const struct counts *t, const uint16_t *code);
 
-/* rules.c: rules 1 to 23 at the latest record; 1 if one is broken, which is then `first`. */
-enum command { MRS, REF, PRE, ACT, WR, RD, ZQ, NOP, SRE, SRX, FORBIDDEN };
+/* rules.c: the rules that are no deadline at the latest record; 1 if one is broken, which is then `first`. */
+enum command { MRS, REF, PRE, ACT, WR, RD, ZQ, NOP, SRE, SRX, PDE, PDX, FORBIDDEN };
 enum { DLL_RESET = 1 << 4, ALL_WRITTEN = 15, DLL_LOCK = 512, MRS_TO_MRS = 4, SAME_TO_SAME = 4, A10 = 1 << 10 };
 int breaks_a_rule(struct judge *j, enum command command, unsigned ba, unsigned a) __attribute__((cold));
 void say(struct judge *j, int rule, uint32_t record, uint32_t partner, int64_t needed, int64_t found);

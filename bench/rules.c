@@ -1,5 +1,6 @@
-/* Rules 1 to 23 at a record, the lowest first, asked where a kept edge says that one of them may be broken. Of each kind of
- * earlier record only the latest is looked at: in a recording that is clean so far, no older one asks for a later edge. */
+/* The rules that are no deadline at a record, the lowest first, asked where a kept edge says that one of them may be broken.
+ * Of each kind of earlier record only the latest is looked at: in a recording that is clean so far, no older one asks for a
+ * later edge. A WR with auto precharge is a kind of its own, and so is an exit that rule 30 counts from. */
 #include "judge.h"
 
 void say(struct judge *j, int rule, uint32_t record, uint32_t partner, int64_t needed, int64_t found)
@@ -127,7 +128,7 @@ static int activate(struct judge *j, const struct bank *b)
         return without_clocks(j, 3, 0);
     return soon_after_start(j, b) || soon_for(j, 6, &b->act, j->t.rc) || soon_for(j, 7, latest_act(j), j->t.rrd) ||
            soon_for(j, 8, &j->acts[j->oldest], j->t.faw) || soon(j, 15, &j->ref) || soon(j, 17, &j->mrs) ||
-           soon(j, 18, &j->zq) || soon(j, 21, &j->woke);
+           soon(j, 18, &j->zq) || soon(j, 21, &j->woke) || soon(j, 29, &j->left);
 }
 
 static int read_column(struct judge *j, const struct bank *b)
@@ -137,20 +138,22 @@ static int read_column(struct judge *j, const struct bank *b)
     if ((j->written & DLL_RESET) == 0)
         return without_clocks(j, 3, 0);
     return soon(j, 4, &b->act) || soon_after_same(j, READ) || soon_after_other(j, 14, WRITE) || soon(j, 15, &j->ref) ||
-           soon(j, 17, &j->mrs) || soon(j, 18, &j->zq) || soon(j, 20, &j->reset) || soon(j, 21, &j->woke);
+           soon(j, 17, &j->mrs) || soon(j, 18, &j->zq) || soon(j, 20, &j->reset) || soon(j, 21, &j->woke) ||
+           soon(j, 29, &j->left) || soon(j, 30, &j->slow);
 }
 
 static int write_column(struct judge *j, const struct bank *b)
 {
     return not_open(j, b) || soon(j, 4, &b->act) || soon_after_same(j, WRITE) || soon_after_other(j, 13, READ) ||
-           soon(j, 15, &j->ref) || soon(j, 17, &j->mrs) || soon(j, 18, &j->zq) || soon(j, 21, &j->woke);
+           soon(j, 15, &j->ref) || soon(j, 17, &j->mrs) || soon(j, 18, &j->zq) || soon(j, 21, &j->woke) ||
+           soon(j, 29, &j->left);
 }
 
 static int precharge_after(struct judge *j, const struct mark *act, const struct column *read, const struct column *wrote)
 {
     return soon_for(j, 9, act, j->t.ras) || soon_after(j, 10, read->at, read->number, read->needs.pre) ||
            soon_after(j, 11, wrote->at, wrote->number, wrote->needs.pre) || soon(j, 15, &j->ref) ||
-           soon(j, 17, &j->mrs) || soon(j, 18, &j->zq) || soon(j, 21, &j->woke);
+           soon(j, 17, &j->mrs) || soon(j, 18, &j->zq) || soon(j, 21, &j->woke) || soon(j, 29, &j->left);
 }
 
 static int precharge(struct judge *j, const struct bank *b)
@@ -170,7 +173,7 @@ static int precharge_all(struct judge *j)
 static int refresh_or_calibrate(struct judge *j)
 {
     return not_all_idle(j) || soon_after_any_start(j) || soon(j, 15, &j->ref) || soon(j, 17, &j->mrs) ||
-           soon(j, 18, &j->zq) || soon(j, 21, &j->woke);
+           soon(j, 18, &j->zq) || soon(j, 21, &j->woke) || soon(j, 29, &j->left);
 }
 
 static int not_allowed(struct judge *j, int bit)
@@ -186,14 +189,33 @@ static int set_mode(struct judge *j, unsigned number, unsigned code)
     if (not_all_idle(j) || not_allowed(j, bad_bit(&j->header, &j->t, number, code)))
         return 1;
     return soon_after_any_start(j) || soon(j, 15, &j->ref) || soon_for(j, 16, &j->mrs, MRS_TO_MRS) ||
-           soon(j, 18, &j->zq) || soon_after_read(j) || soon(j, 21, &j->woke);
+           soon(j, 18, &j->zq) || soon_after_read(j) || soon(j, 21, &j->woke) || soon(j, 29, &j->left);
 }
 
 static int enter_self_refresh(struct judge *j)
 {
     return not_all_idle(j) || soon_after_any_start(j) || soon(j, 15, &j->ref) || soon(j, 17, &j->mrs) ||
            soon(j, 18, &j->zq) || soon_after_read(j) || soon(j, 21, &j->woke) ||
-           (j->refresh_owed && without_clocks(j, 23, j->woke.number));
+           (j->refresh_owed && without_clocks(j, 23, j->woke.number)) || soon(j, 27, &j->changed) ||
+           soon(j, 29, &j->left);
+}
+
+static struct mark to_entry(const struct column *c)
+{
+    struct mark m = {c->at, c->number, c->needs.entry};
+    return m;
+}
+
+/* Rule 26's partner is the latest that breaks it. */
+static int soon_to_enter(struct judge *j)
+{
+    struct mark all[4] = {to_entry(latest(j, READ)), to_entry(latest(j, WRITE)), j->auto_write, j->mrs};
+    const struct mark *last = 0;
+    int i;
+    for (i = 0; i < 4; i++)
+        if (j->edge - all[i].at < all[i].need && (!last || all[i].number > last->number))
+            last = &all[i];
+    return last && soon(j, 26, last);
 }
 
 int breaks_a_rule(struct judge *j, enum command command, unsigned ba, unsigned a)
@@ -208,6 +230,8 @@ int breaks_a_rule(struct judge *j, enum command command, unsigned ba, unsigned a
     case MRS: return set_mode(j, ba, a);
     case SRE: return enter_self_refresh(j);
     case SRX: return soon(j, 22, &j->slept);
+    case PDE: return soon_to_enter(j) || soon(j, 27, &j->changed);
+    case PDX: return soon(j, 27, &j->changed);
     case FORBIDDEN: return without_clocks(j, 1, 0);
     default: return 0;
     }

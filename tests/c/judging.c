@@ -1,5 +1,5 @@
 /* Judging a whole recording from C, on good and bad input: each answer and each byte of the lent buffers is held to the
- * tables below, which are written from 01's examples and its list of refusals. */
+ * tables below, which are written from 01's examples and its list of refusals, and from Q-1's rules. */
 #include "checks.h"
 
 enum { VERDICT = 20, SIX = 6, LIMIT = 1048576 };
@@ -14,6 +14,17 @@ static const uint8_t P9[] = {HEADER, REGISTERS_AND_ACT, READ, 0, 0, 5, 0x93, 0, 
 static const uint8_t P10[] = {HEADER, REGISTERS_AND_ACT, READ, 0, 0, 5, 0x93, 0, 0, 0, 0, 4, 0x93, 0, 0, 0, 0, 5, 0x9B, 0, 0};
 static const uint8_t P11[] = {HEADER};
 static const uint8_t P12[] = {HEADER, REGISTERS_AND_ACT};
+
+/* P9 and a power-down: the entry at 538 or 539, 14 clocks after the RD, the exit at 543. */
+#define CLOSED HEADER, REGISTERS_AND_ACT, READ, 0, 0, 5, 0x93, 0, 0
+#define NAP CLOSED, 0, 0, 9, 0x38, 0, 0, 0, 0, 4, 0xB8, 0, 0
+static const uint8_t ENTRY[] = {CLOSED, 0, 0, 8, 0x38, 0, 0};
+static const uint8_t EXIT[] = {CLOSED, 0, 0, 9, 0x38, 0, 0, 0, 0, 3, 0xB8, 0, 0};
+static const uint8_t OPENS[] = {NAP, 0, 0, 3, 0x9B, 0, 0};
+static const uint8_t READS[] = {NAP, 0, 0, 4, 0x9B, 0, 0, 0, 0, 9, 0xAB, 0, 0};
+static const uint8_t READS_LATER[] = {NAP, 0, 0, 4, 0x9B, 0, 0, 0, 0, 12, 0xAB, 0, 0};
+/* A REF, so that no refresh is owed too soon, and an entry at edge 2. */
+static const uint8_t STAY[] = {HEADER, 0, 0, 1, 0x88, 0, 0, 0, 0, 1, 0x38, 0, 0};
 
 static const uint64_t GREATEST_END = (uint64_t)1 << 44;
 
@@ -41,6 +52,13 @@ static const struct {
     {P12, sizeof P12, 24, 8, {0}},
     {P12, sizeof P12, 46691, 0, {0, 0, 5, 0, 46691, 0, 0}},
     {P12, sizeof P12, 46692, 0, {1, 24, 0, 5, 46692, 46666, 46667}},
+    {ENTRY, sizeof ENTRY, 538, 0, {1, 26, 8, 6, 538, 14, 13}},
+    {EXIT, sizeof EXIT, 542, 0, {1, 27, 9, 8, 542, 4, 3}},
+    {OPENS, sizeof OPENS, 546, 0, {1, 29, 10, 9, 546, 4, 3}},
+    {READS, sizeof READS, 556, 0, {1, 30, 11, 9, 556, 16, 13}},
+    {READS_LATER, sizeof READS_LATER, 559, 0, {0, 0, 11, 0, 559, 0, 0}},
+    {STAY, sizeof STAY, 46802, 0, {0, 0, 2, 0, 46802, 0, 0}},
+    {STAY, sizeof STAY, 46803, 0, {1, 28, 0, 2, 46803, 46800, 46801}},
     {P8, 5, 0, 1, {0}},
     {P8, 7, 0, 5, {0}},
     {P8, sizeof P8 - 1, 529, 5, {0}},

@@ -131,7 +131,7 @@ static void by_file(const char *path, unsigned long least, void by(const uint8_t
 int main(void)
 {
     by_file("tests/vectors/whole.txt", 1000, by_line);
-    by_file("tests/vectors/requests.txt", 400, by_line);
+    by_file("tests/vectors/requests.txt", 390, by_line);
     by_file("tests/vectors/registers.txt", 300, by_code);
     return told("vectors");
 }

@@ -63,6 +63,15 @@ pub fn precharge_start(header: &Header, past: &[Event], place: usize, bank: u8) 
     }
 }
 
+/// No bank was opened last: each is idle or closing behind these records.
+pub fn none_open(past: &[Event]) -> bool {
+    let turns =
+        |event: &&Event, bank: u8| is_act_of(event, bank) || covers(event, bank) || has_auto_precharge(event, bank);
+    let is_open =
+        |bank: u8| past.iter().rev().find(|event| turns(event, bank)).is_some_and(|event| is_act_of(event, bank));
+    !(0..8).any(is_open)
+}
+
 /// A bank is idle at and after its start; from the RD or WR with auto precharge until then it is closing.
 pub fn bank_at(header: &Header, past: &[Event], bank: u8, edge: i64) -> Bank {
     for place in (0..past.len()).rev() {

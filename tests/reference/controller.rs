@@ -5,14 +5,14 @@ use crate::banks::{bank_at, covers, Bank};
 use crate::deadlines::{awake_at, debt_at};
 use crate::header::Header;
 use crate::random::Random;
-use crate::recording::{cke_after, command_of, last_edge, Command, Command::*, Event, Record};
+use crate::recording::{asleep_after, cke_after, entry_of_stay, last_edge, Command, Command::*, Event, Record};
 use crate::rules::{banks_of_rule_5, fourth_act_back, latest_start, needed};
 
 /// What a controller likes to do.
 #[derive(Clone, Copy)]
 pub struct Temper {
-    /// ACT, RD, WR, PRE, REF, MRS, ZQ, SRE, NOP.
-    pub weights: [u64; 9],
+    /// ACT, RD, WR, PRE, REF, MRS, ZQ, SRE, NOP, PDE.
+    pub weights: [u64; 10],
     pub banks: u8,
     /// Percent of records issued at the least edge.
     pub eager: u64,
@@ -22,6 +22,9 @@ pub struct Temper {
     pub debts: (i64, i64),
     pub dll_reset: bool,
 }
+
+/// The rules that ask for a least spacing.
+pub const SPACINGS: &[u8] = &[4, 5, 6, 7, 8, 9, 10, 11, 12, 13, 14, 15, 16, 17, 18, 19, 20, 21, 22, 26, 27, 29, 30];
 
 /// No least spacing between two records is longer.
 const LONGEST_SPACING: i64 = 512;
@@ -78,7 +81,7 @@ impl Controller {
 
     pub fn record(&mut self, command: Command, ba: u8, a10: bool) -> Record {
         let a = self.random.next() as u16 & !(1 << 10) | (a10 as u16) << 10;
-        Record { step: 0, cke: command != Sre, pins: pins_of(command), ba, a }
+        Record { step: 0, cke: !matches!(command, Sre | Pde), pins: pins_of(command), ba, a }
     }
 
     pub fn issue(&mut self, record: Record, edge: i64) {
@@ -88,14 +91,14 @@ impl Controller {
     }
 
     /// For each rule the first edge at which it lets the record pass; 0 where it asks nothing.
-    pub fn least_edges(&self, record: &Record) -> [i64; 24] {
+    pub fn least_edges(&self, record: &Record) -> [i64; 31] {
         let (header, past) = (&self.header, &self.past[..]);
         let event = Event::after(past, &Record { step: 1, ..*record });
-        let mut edges = [0; 24];
-        for rule in 4..=22 {
-            let spacing = |earlier: &Event| Some(earlier.edge + needed(header, rule, earlier, &event)?);
+        let mut edges = [0; 31];
+        for rule in SPACINGS {
+            let spacing = |earlier: &Event| Some(earlier.edge + needed(header, *rule, earlier, &event)?);
             let recent = past.iter().rev().take_while(|earlier| event.edge - earlier.edge <= LONGEST_SPACING);
-            edges[rule as usize] = recent.filter_map(spacing).max().unwrap_or(0);
+            edges[*rule as usize] = recent.filter_map(spacing).max().unwrap_or(0);
         }
         let covered: Vec<u8> = (0..8).filter(|bank| covers(&event, *bank)).collect();
         let start_of = |banks: &[u8]| latest_start(header, past, banks).map(|(start, _)| start);
@@ -116,11 +119,11 @@ impl Controller {
         debt_at(&self.header, &self.past, self.now())
     }
 
-    /// The edge at which 25 breaks when no REF comes, if the clock is awake.
+    /// The edge at which 25 breaks when no REF comes, if the clock is awake. It runs on in power-down.
     fn debt_deadline(&self) -> Option<i64> {
         let into_interval = awake_at(&self.past, self.now()) % self.header.t_refi();
         let deadline = self.now() - into_interval + (9 - self.debt()) * self.header.t_refi();
-        cke_after(&self.past).then_some(deadline)
+        (!asleep_after(&self.past)).then_some(deadline)
     }
 
     pub fn longest_open(&self) -> Option<u8> {
@@ -133,11 +136,17 @@ impl Controller {
         Some(act.edge + self.header.greatest_t_ras() + 1)
     }
 
+    /// The edge at which 28 breaks when no exit comes.
+    fn stay_deadline(&self) -> Option<i64> {
+        Some(entry_of_stay(&self.past)?.edge + self.header.greatest_stay() + 1)
+    }
+
     /// The next deadline and its rule.
     pub fn deadline(&self) -> Option<(i64, u8)> {
         let open = self.open_deadline().map(|edge| (edge, 24));
         let debt = self.debt_deadline().map(|edge| (edge, 25));
-        open.into_iter().chain(debt).min()
+        let stay = self.stay_deadline().map(|edge| (edge, 28));
+        open.into_iter().chain(debt).chain(stay).min()
     }
 
     /// The first edge at or after this one at which the debt rises, when the clock stays awake.
@@ -156,8 +165,8 @@ impl Controller {
             return (self.rising(least) - self.random.pick(&[0, 0, 1])).max(least);
         }
         let t_refi = self.header.t_refi();
-        let asleep = !cke_after(&self.past);
-        let longest = if asleep { LONGEST_SLEEP } else { 6 * t_refi };
+        let down = !cke_after(&self.past);
+        let longest = if asleep_after(&self.past) { LONGEST_SLEEP } else { (6 + 3 * down as i64) * t_refi };
         let most = self.random.pick(&[8, 8, 8, 200, 200, t_refi, longest]);
         least + self.random.between(1, most)
     }
@@ -167,8 +176,9 @@ impl Controller {
         let least = self.least_edge(record);
         let wanted = self.wanted_edge(least);
         let Some((deadline, rule)) = self.deadline() else { return wanted };
-        let last_in_time = match (rule, command_of(cke_after(&self.past), record)) {
+        let last_in_time = match (rule, Event::after(&self.past, record).command) {
             (25, Ref) => deadline,
+            (28, Pdx) => deadline - 1,
             (24, Pre) if record.a >> 10 & 1 == 1 => deadline - 1,
             _ => return wanted.min(deadline - MARGIN).max(least),
         };

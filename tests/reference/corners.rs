@@ -1,6 +1,7 @@
 //! Corners that a controller does not come to by chance: each is set up on purpose, and then the rule is broken at it.
 
 use crate::controller::{pins_of, Controller};
+use crate::naps::{change_too_soon, command_too_soon, entry_too_soon, slow_exit, with_the_deadline};
 use crate::random::Random;
 use crate::recording::{cke_after, registers_after, Command::*, Record};
 use crate::registers::{allowed, bad_bit, NAMED, NO_REGISTER};
@@ -17,9 +18,14 @@ pub fn corner(controller: &mut Controller, rule: u8) -> Option<()> {
         3 => code_of_the_next_period(controller),
         5 => equal_starts(controller),
         21 => asleep_again(controller),
+        24 | 25 if controller.random.chance(50) => with_the_deadline(controller, rule),
         24 if controller.random.chance(50) => start_at_the_deadline(controller),
         24 => both_deadlines(controller),
         25 => pulled_in_at_a_rising(controller),
+        26 => entry_too_soon(controller),
+        27 => change_too_soon(controller),
+        29 => command_too_soon(controller),
+        30 => slow_exit(controller),
         _ => None,
     }
 }
@@ -137,7 +143,7 @@ fn pulled_in_at_a_rising(controller: &mut Controller) -> Option<()> {
     Some(())
 }
 
-fn all_idle(controller: &mut Controller) {
+pub fn all_idle(controller: &mut Controller) {
     if !controller.open_banks().is_empty() {
         let all = controller.record(Pre, 0, true);
         let edge = controller.least_edge(&all);
@@ -146,7 +152,7 @@ fn all_idle(controller: &mut Controller) {
 }
 
 /// With all banks idle, REFs down to a debt of -8.
-fn pull_in(controller: &mut Controller) {
+pub fn pull_in(controller: &mut Controller) {
     all_idle(controller);
     for _ in 0..20 {
         if controller.debt() > -8 {

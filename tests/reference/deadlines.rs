@@ -1,8 +1,8 @@
-//! Rules 24 and 25, the awake clock and the refresh debt.
+//! The deadlines, rules 24, 25 and 28, the awake clock and the refresh debt.
 
 use crate::banks::precharge_start;
 use crate::header::Header;
-use crate::recording::{cke_after, Command, Event};
+use crate::recording::{asleep_after, entry_of_stay, Command, Event};
 use crate::rules::Break;
 
 const LOWEST_DEBT: i64 = -8;
@@ -64,9 +64,23 @@ fn broken_by_debt(header: &Header, past: &[Event], edge: i64) -> Option<Break> {
     Some(Break { rule: 25, record: 0, partner, edge, needed: BROKEN_DEBT - 1, found: BROKEN_DEBT })
 }
 
-/// The deadline broken at this edge; the past holds the records up to it.
-pub fn broken_by_deadline(header: &Header, past: &[Event], edge: i64) -> Option<Break> {
-    broken_by_open_bank(header, past, edge).or_else(|| broken_by_debt(header, past, edge))
+/// 28 greatest stay in power-down nine times tREFI's clocks; broken one edge after, by a part that was still in it one
+/// edge before. Partner: the entry.
+fn broken_by_stay(header: &Header, past: &[Event], edge: i64) -> Option<Break> {
+    let limit = header.greatest_stay();
+    let before = past.iter().take_while(|event| event.edge < edge).count();
+    let entry = entry_of_stay(&past[..before]).filter(|entry| entry.edge + limit + 1 == edge)?;
+    Some(Break { rule: 28, record: 0, partner: entry.number, edge, needed: limit, found: limit + 1 })
+}
+
+/// How this deadline is broken at this edge, if it is; the past holds the records up to it.
+pub fn broken_by_deadline(header: &Header, past: &[Event], edge: i64, rule: u8) -> Option<Break> {
+    match rule {
+        24 => broken_by_open_bank(header, past, edge),
+        25 => broken_by_debt(header, past, edge),
+        28 => broken_by_stay(header, past, edge),
+        _ => None,
+    }
 }
 
 /// The edges after the last record and up to the given one at which a deadline can become due.
@@ -75,7 +89,8 @@ pub fn edges_to_examine(header: &Header, past: &[Event], from: i64, until: i64) 
     let open_too_long =
         past.iter().filter(|event| event.command == Command::Act).map(|act| act.edge + header.greatest_t_ras() + 1);
     let mut edges: Vec<i64> = open_too_long.collect();
-    if cke_after(past) {
+    edges.extend(entry_of_stay(past).map(|entry| entry.edge + header.greatest_stay() + 1));
+    if !asleep_after(past) {
         let into_interval = awake_at(past, from) % header.t_refi();
         let most_risings = BROKEN_DEBT - LOWEST_DEBT;
         edges.extend((1..=most_risings).map(|rising| from - into_interval + rising * header.t_refi()));

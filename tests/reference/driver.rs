@@ -38,6 +38,8 @@ pub struct Driver {
     write: i64,
     /// The latest read's last word is out.
     read_out: i64,
+    /// The first edge at which a power-down entry may come.
+    entry: i64,
     /// The first edge at which the debt rises that no REF was given for. Asleep it rises later than this says.
     rising: i64,
 }
@@ -56,6 +58,7 @@ impl Driver {
             read: 0,
             write: 0,
             read_out: 0,
+            entry: 0,
             rising: HEADER.t_refi(),
         }
     }
@@ -64,11 +67,13 @@ impl Driver {
         let slack = self.random.pick(&[0, 0, 0, 0, 1, 2, 5]);
         let by_others = match command {
             Mrs => self.set,
-            Nop | Des | Srx => 0,
+            Nop | Des | Srx | Pdx => 0,
+            Pde => self.entry,
             _ => self.free,
         };
         let edge = least.max(self.now + 1).max(by_others) + slack;
-        let record = Record { step: edge - self.now, cke: command != Sre, pins: pins_of(command), ba, a };
+        let record =
+            Record { step: edge - self.now, cke: !matches!(command, Sre | Pde), pins: pins_of(command), ba, a };
         self.bytes.extend(record.write());
         self.now = edge;
     }
@@ -112,10 +117,13 @@ impl Driver {
             self.read = self.now + 4;
             self.write = self.write.max(self.now + registers.cl() - registers.cwl() + 2 + b);
             self.read_out = self.now + registers.rl() + b;
+            self.entry = self.entry.max(self.now + registers.rl() + 5);
         } else {
             self.issue(Wr, bank, a, opened.max(self.write));
             self.write = self.now + 4;
             self.read = self.read.max(self.now + registers.cwl() + h + HEADER.t_wtr());
+            let recovery = if auto { registers.programmed_wr() + 1 } else { HEADER.t_wr() };
+            self.entry = self.entry.max(self.now + registers.wl() + h + recovery);
         }
         let now = self.now;
         let place = &mut self.banks[bank as usize];
@@ -158,6 +166,7 @@ impl Driver {
             self.read = self.now + DLL_LOCK;
         }
         (self.set, self.free) = (self.now + T_MRD, self.now + HEADER.t_mod());
+        self.entry = self.free;
     }
 
     pub fn calibrate(&mut self, long: bool) {
@@ -172,6 +181,17 @@ impl Driver {
         self.issue(Srx, 0, 0, self.now + HEADER.t_cke() + 1);
         self.wait(HEADER.t_xs());
         self.read = self.now + DLL_LOCK;
+        self.entry = self.now + HEADER.t_cke();
+    }
+
+    /// Power-down with all banks closed, so many clocks later, for so many or a little more.
+    pub fn nap(&mut self, later: i64, clocks: i64) {
+        self.issue(Pde, 0, 0, self.now + later);
+        self.issue(Pdx, 0, 0, self.now + clocks.max(HEADER.t_cke()));
+        let awake = self.now + HEADER.t_xp();
+        (self.set, self.free) = (self.set.max(awake), self.free.max(awake));
+        self.read = self.read.max(self.now + HEADER.t_xpdll());
+        self.entry = self.entry.max(self.now + HEADER.t_cke());
     }
 
     /// NOP or DES, so many clocks later or a little more.

@@ -1,11 +1,13 @@
 //! What the generated recordings must have among them, and how often each comes in those that are judged.
 
 use crate::banks::precharge_start;
+use crate::controller::SPACINGS;
 use crate::deadlines::{awake_at, debt_at};
 use crate::header::Header;
+use crate::powerdown::{self, spacing_name};
 use crate::recording::{read_recording, read_records, Command::*, Event};
 use crate::registers::{all_bit_names, allowed, bit_name};
-use crate::rules::{banks_of_rule_5, fourth_act_back, latest_start, needed};
+use crate::rules::{banks_of_rule_5, fourth_act_back, latest_start, needed, Break};
 use crate::settings::CODE_BORDERS;
 use std::collections::BTreeMap;
 
@@ -17,9 +19,6 @@ const LONGEST_SPACING: i64 = 512;
 
 /// Where a table of the paper changes.
 const BORDERS: [i64; 8] = [1070, 1250, 1500, 1641, 1875, 2500, 3000, 3300];
-
-/// Rules whose least spacing can be met to the edge in a clean recording.
-const SPACINGS: std::ops::RangeInclusive<u8> = 4..=22;
 
 #[derive(Default)]
 pub struct Features(BTreeMap<String, u64>);
@@ -69,10 +68,11 @@ fn all() -> Vec<String> {
         names.push(format!("{command}, AL code {}, burst mode {}", n / 3 % 3, n % 3));
     }
     names.extend((-8..=8).map(|debt| format!("REF to debt {debt}")));
-    for rule in SPACINGS {
-        names.push(format!("rule {rule} met to the edge"));
-        names.push(format!("rule {rule} broken by one edge"));
+    for row in (4..=22).map(|rule| format!("rule {rule}")).chain(powerdown::all_rows()) {
+        names.push(format!("{row} met to the edge"));
+        names.push(format!("{row} broken by one edge"));
     }
+    names.extend(powerdown::all());
     names
 }
 
@@ -120,24 +120,35 @@ fn record_features(header: &Header, past: &[Event]) -> Vec<String> {
     }
 }
 
-/// The rules of which the last record meets the least spacing to the edge.
+/// The rules of which the last record meets the least spacing to the edge, by row where a rule has several.
 fn met_to_the_edge(header: &Header, past: &[Event]) -> Vec<String> {
     let Some((last, earlier)) = past.split_last() else { return vec![] };
     let recent = || earlier.iter().rev().take_while(|event| last.edge - event.edge <= LONGEST_SPACING);
-    let exact = |rule: u8| match rule {
-        5 => {
-            latest_start(header, earlier, &banks_of_rule_5(last)).map(|(start, _)| start + header.t_rp())
-                == Some(last.edge)
-        }
-        8 => last.command == Act && fourth_act_back(earlier).is_some_and(|act| act.edge + header.t_faw() == last.edge),
-        _ => recent().any(|event| needed(header, rule, event, last) == Some(last.edge - event.edge)),
+    let start = latest_start(header, earlier, &banks_of_rule_5(last)).map(|(start, _)| start + header.t_rp());
+    let fourth = fourth_act_back(earlier).filter(|_| last.command == Act).map(|act| act.edge + header.t_faw());
+    let by_record = |rule: u8| {
+        let exact = move |event: &&Event| needed(header, rule, event, last) == Some(last.edge - event.edge);
+        recent().find(exact).map(|event| spacing_name(rule, event, last))
     };
-    SPACINGS.filter(|rule| exact(*rule)).map(|rule| format!("rule {rule} met to the edge")).collect()
+    let row = |rule: u8| match rule {
+        5 => (start == Some(last.edge)).then(|| "rule 5".to_string()),
+        8 => (fourth == Some(last.edge)).then(|| "rule 8".to_string()),
+        _ => by_record(rule),
+    };
+    SPACINGS.iter().filter_map(|rule| row(*rule)).map(|row| format!("{row} met to the edge")).collect()
+}
+
+/// The rule of which a record misses the least spacing by one edge.
+fn missed_by_one(past: &[Event], broken: &Break) -> Option<String> {
+    let (earlier, later) = (past.get(broken.partner.checked_sub(1)?)?, past.last()?);
+    let row = spacing_name(broken.rule, earlier, later);
+    (broken.needed == broken.found + 1).then(|| format!("{row} broken by one edge"))
 }
 
 /// The past holds the records up to the broken edge.
-fn corner_features(header: &Header, past: &[Event], rule: u8, edge: i64, found: u64) -> Vec<String> {
+fn corner_features(header: &Header, past: &[Event], broken: &Break) -> Vec<String> {
     let Some((last, earlier)) = past.split_last() else { return vec![] };
+    let Break { rule, edge, found, .. } = *broken;
     if rule == 3 && last.command != Mrs {
         return vec![format!("rule 3 by {:?}, found {found}", last.command)];
     }
@@ -169,8 +180,19 @@ fn corner_features(header: &Header, past: &[Event], rule: u8, edge: i64, found: 
     place.map(|place| CORNERS[place].to_string()).into_iter().collect()
 }
 
-fn number(bytes: &[u8]) -> u64 {
-    bytes.iter().fold(0, |number, byte| number << 8 | *byte as u64)
+fn number(bytes: &[u8]) -> i64 {
+    bytes.iter().fold(0, |number, byte| number << 8 | *byte as i64)
+}
+
+fn break_of(verdict: &[u8]) -> Break {
+    Break {
+        rule: verdict[1],
+        record: number(&verdict[2..5]) as usize,
+        partner: number(&verdict[5..8]) as usize,
+        edge: number(&verdict[8..14]),
+        needed: number(&verdict[14..17]),
+        found: number(&verdict[17..20]),
+    }
 }
 
 impl Features {
@@ -181,23 +203,24 @@ impl Features {
             return;
         }
         let mut names = header_features(&header);
-        let (outcome, rule, edge) = (verdict[0], verdict[1], number(&verdict[8..14]) as i64);
+        let broken = (verdict[0] == 1).then(|| break_of(verdict));
         let mut past = vec![];
         for record in read_records(section) {
             let event = Event::after(&past, &record);
-            if outcome == 1 && event.edge >= edge {
-                past.extend((event.edge == edge).then_some(event));
+            if let Some(broken) = broken.filter(|broken| event.edge >= broken.edge) {
+                past.extend((event.edge == broken.edge).then_some(event));
                 break;
             }
             past.push(event);
             names.extend(record_features(&header, &past));
+            names.extend(powerdown::record_features(&header, &past));
             names.extend(met_to_the_edge(&header, &past));
         }
-        if outcome == 1 {
-            names.extend(corner_features(&header, &past, rule, edge, number(&verdict[17..20])));
+        if let Some(broken) = &broken {
+            names.extend(corner_features(&header, &past, broken));
+            names.extend(powerdown::break_features(&header, &past, broken));
+            names.extend(missed_by_one(&past, broken));
         }
-        let by_one = number(&verdict[14..17]) == number(&verdict[17..20]) + 1;
-        names.extend((outcome == 1 && by_one).then(|| format!("rule {rule} broken by one edge")));
         for name in names {
             *self.0.entry(name).or_default() += 1;
         }

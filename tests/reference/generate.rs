@@ -8,14 +8,15 @@ use crate::recording::GREATEST_END;
 use crate::settings::{header_bytes, header_for_rule, random_header};
 use crate::slips::slip;
 
-/// ACT, RD, WR, PRE, REF, MRS, ZQ, SRE, NOP.
-const MIXED: [u64; 9] = [20, 20, 15, 12, 4, 3, 1, 1, 6];
-const ROWS: [u64; 9] = [40, 5, 5, 30, 2, 1, 0, 0, 2];
-const COLUMNS: [u64; 9] = [15, 40, 35, 8, 1, 1, 0, 0, 2];
-const UPKEEP: [u64; 9] = [6, 4, 4, 6, 20, 15, 8, 8, 6];
-const READ_THEN_SET: [u64; 9] = [15, 25, 2, 10, 1, 25, 0, 15, 1];
-const CLOSING: [u64; 9] = [30, 22, 22, 6, 3, 4, 2, 2, 2];
-const SLEEPER: [u64; 9] = [5, 6, 3, 4, 12, 3, 2, 25, 5];
+/// ACT, RD, WR, PRE, REF, MRS, ZQ, SRE, NOP, PDE.
+const MIXED: [u64; 10] = [20, 20, 15, 12, 4, 3, 1, 1, 6, 3];
+const ROWS: [u64; 10] = [40, 5, 5, 30, 2, 1, 0, 0, 2, 1];
+const COLUMNS: [u64; 10] = [15, 40, 35, 8, 1, 1, 0, 0, 2, 1];
+const UPKEEP: [u64; 10] = [6, 4, 4, 6, 20, 15, 8, 8, 6, 4];
+const READ_THEN_SET: [u64; 10] = [15, 25, 2, 10, 1, 25, 0, 15, 1, 0];
+const CLOSING: [u64; 10] = [30, 22, 22, 6, 3, 4, 2, 2, 2, 2];
+const SLEEPER: [u64; 10] = [5, 6, 3, 4, 12, 3, 2, 25, 5, 10];
+const NAPPER: [u64; 10] = [15, 15, 15, 8, 3, 4, 1, 3, 3, 35];
 
 /// One recording in this many is over the limit or just at it: its line has twelve million digits.
 const OVER_THE_LIMIT_EVERY: u64 = 250;
@@ -53,11 +54,12 @@ pub fn case(seed: u64, index: u64, small: bool) -> Case {
 }
 
 fn any_aimed(random: &mut Random) -> Case {
-    let mut weights = [2; 26];
+    let mut weights = [2; 31];
     weights[0] = 16;
     for rarely_reached in [3, 4, 8, 10, 20] {
         weights[rarely_reached] = 4;
     }
+    weights[3] = 5;
     weights[19] = 8;
     let rule = random.weighted(&weights) as u8;
     let (least, greatest) = random.pick(&[(20, 50), (20, 50), (20, 50), (20, 50), (30, 100), (20, 200)]);
@@ -75,7 +77,8 @@ fn temper_for(random: &mut Random, rule: u8) -> Temper {
         19 => READ_THEN_SET,
         20 => random.pick(&[COLUMNS, SLEEPER, READ_THEN_SET]),
         21..=23 => SLEEPER,
-        _ => random.pick(&[MIXED, CLOSING, ROWS, COLUMNS, UPKEEP, READ_THEN_SET, READ_THEN_SET, SLEEPER]),
+        26..=30 => NAPPER,
+        _ => random.pick(&[MIXED, CLOSING, ROWS, COLUMNS, UPKEEP, READ_THEN_SET, READ_THEN_SET, SLEEPER, NAPPER]),
     };
     let postponed = random.between(1, 8);
     Temper {
@@ -88,7 +91,7 @@ fn temper_for(random: &mut Random, rule: u8) -> Temper {
         eager: if rule == 6 || rule == 8 { 97 } else { random.pick(&[30, 60, 80, 95]) },
         auto: if weights == CLOSING { 80 } else { random.pick(&[0, 10, 30, 60]) },
         debts: match rule {
-            24 => (0, random.between(-8, -1)),
+            24 | 28 => (0, random.between(-8, -1)),
             _ => (postponed, random.between(-8, postponed - 1)),
         },
         dll_reset: rule != 3 || random.chance(50),

@@ -144,6 +144,27 @@ impl Header {
         self.least(80_000).max(64)
     }
 
+    pub fn exit_time(&self) -> i64 {
+        if self.bin == 0 {
+            7500
+        } else {
+            6000
+        }
+    }
+
+    pub fn t_xp(&self) -> i64 {
+        self.least(self.exit_time()).max(3)
+    }
+
+    pub fn t_xpdll(&self) -> i64 {
+        self.least(24_000).max(10)
+    }
+
+    /// Nine times tREFI's clocks.
+    pub fn greatest_stay(&self) -> i64 {
+        9 * self.t_refi()
+    }
+
     pub fn greatest_t_ras(&self) -> i64 {
         self.greatest(70_000_000)
     }

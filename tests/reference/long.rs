@@ -1,10 +1,11 @@
-//! Long recordings, for measuring speed. Four are clean and begin with the registers set:
+//! Long recordings, for measuring speed. Five are clean and begin with the registers set:
 //!
 //! rounds   ACT, RD and WR, PRE, and REF in time, with some auto precharge and some slack
 //! mix      of 100 records 38 ACT, 21 RD and WR, 14 of these with auto precharge, 14 PRE, 7 PRE of all banks, 2 REF,
 //!          1.4 MRS, 1 SRE or SRX, 0.3 ZQ, the rest NOP and DES
 //! modes    seven MRS and a REF
 //! idle     fifteen NOP or DES and a REF
+//! naps     the rounds, and behind each a power-down
 //!
 //! and one, `broken`, is broken at its first record and goes on with anything. What its name says of a recording is looked
 //! up for its first records.
@@ -41,6 +42,13 @@ fn round(driver: &mut Driver) {
         open.iter().for_each(|bank| driver.precharge(*bank, false));
     }
     driver.refresh_in_time();
+}
+
+/// A round; a power-down some clocks after its last PRE, or after the REFs behind that.
+fn round_and_nap(driver: &mut Driver) {
+    round(driver);
+    let (later, clocks) = (driver.random.between(1, 10), driver.random.between(1, 100));
+    driver.nap(later, clocks);
 }
 
 /// Banks are opened one after the other, and between this some are used, some closed; then all are closed, and what needs
@@ -133,6 +141,7 @@ pub fn long(kind: &str, seed: u64, records: usize) -> Result<Vec<u8>, String> {
         "mix" => (clean(seed, records, mixed), "clean "),
         "modes" => (clean(seed, records, seven_modes), "clean "),
         "idle" => (clean(seed, records, idle), "clean "),
+        "naps" => (clean(seed, records, round_and_nap), "clean "),
         "broken" => (broken(seed, records), "broken 3 1 "),
         _ => return Err(format!("not a kind of long recording: {kind}")),
     };

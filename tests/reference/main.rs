@@ -7,7 +7,7 @@
 //! reference burst                       lines "length start type direction [lent]" to answers
 //! reference generate SEED COUNT [small] recordings, a line each: hex, end, lent
 //! reference count SEED COUNT [small]    how often each answer comes
-//! reference long KIND SEED RECORDS      a long recording, as bytes: rounds, mix, modes, idle, broken
+//! reference long KIND SEED RECORDS      a long recording, as bytes: rounds, mix, modes, idle, broken, naps
 //! reference rounds SEED RECORDS         that of the rounds
 //! reference functions SEED COUNT WORDS  compares the C harness that WORDS start; `few` for COUNT's small ones only
 //! reference few SEED COUNT WORDS
@@ -33,6 +33,8 @@ mod generate;
 mod harness;
 mod header;
 mod long;
+mod naps;
+mod powerdown;
 mod programs;
 mod proposals;
 mod random;

@@ -6,13 +6,13 @@ use crate::recording::{cke_after, registers_after, Command, Command::*, Record};
 use crate::settings::{allowed_code, mr0_code};
 
 /// In the order of a temper's weights.
-const KINDS: [Command; 9] = [Act, Rd, Wr, Pre, Ref, Mrs, Zq, Sre, Nop];
+const KINDS: [Command; 10] = [Act, Rd, Wr, Pre, Ref, Mrs, Zq, Sre, Nop, Pde];
 
 impl Controller {
     /// A record that can be issued after some wait, by the temper.
     pub fn choose(&mut self) -> Record {
         if !cke_after(&self.past) {
-            return self.while_asleep();
+            return self.while_low();
         }
         if self.must_refresh() {
             return self.with_all_idle(Ref);
@@ -28,6 +28,7 @@ impl Controller {
             Wr => self.column(Wr),
             Pre => self.precharge(),
             Nop => self.nothing(),
+            Pde => self.power_down(),
             command => self.with_all_idle(command),
         }
     }
@@ -40,8 +41,18 @@ impl Controller {
         urgent || self.catching_up
     }
 
-    fn while_asleep(&mut self) -> Record {
-        let pins = if self.random.chance(50) { 0b0111 } else { 8 + self.random.below(8) as u8 };
+    /// NOP or DES.
+    fn idle_pins(&mut self) -> u8 {
+        if self.random.chance(50) {
+            0b0111
+        } else {
+            8 + self.random.below(8) as u8
+        }
+    }
+
+    /// In self-refresh or in power-down.
+    fn while_low(&mut self) -> Record {
+        let pins = self.idle_pins();
         let wakes = self.random.chance(75);
         let pins = if wakes { pins } else { self.random.below(16) as u8 };
         Record { cke: wakes, pins, ..self.record(Nop, 0, false) }
@@ -120,6 +131,12 @@ impl Controller {
         let command = if self.random.chance(50) { Nop } else { Des };
         let bank = self.random.below(8) as u8;
         self.record(command, bank, false)
+    }
+
+    /// A power-down entry, whatever the banks do.
+    pub fn power_down(&mut self) -> Record {
+        let (pins, bank) = (self.idle_pins(), self.random.below(8) as u8);
+        Record { pins, ..self.record(Pde, bank, false) }
     }
 
     /// REF, MRS, ZQ or SRE, or a PRE of all banks when one is open.

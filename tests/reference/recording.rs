@@ -1,5 +1,6 @@
 //! A recording's bytes as records, and a record with its past as an event.
 
+use crate::banks::none_open;
 use crate::header::{read_header, Header};
 use crate::registers::Registers;
 
@@ -51,6 +52,9 @@ pub enum Command {
     Des,
     Sre,
     Srx,
+    /// Power-down entry and exit.
+    Pde,
+    Pdx,
     /// CKE staying low: pins ignored.
     Low,
     /// Any other CKE change: rule 1.
@@ -72,19 +76,48 @@ pub fn command_of_pins(pins: u8) -> Command {
     }
 }
 
-pub fn command_of(cke_before: bool, record: &Record) -> Command {
+fn command_of(past: &[Event], record: &Record) -> Command {
     let high = command_of_pins(record.pins);
-    match (cke_before, record.cke, high) {
+    match (cke_after(past), record.cke, high) {
         (true, true, _) => high,
         (false, false, _) => Command::Low,
         (true, false, Command::Ref) => Command::Sre,
-        (false, true, Command::Nop | Command::Des) => Command::Srx,
+        (true, false, Command::Nop | Command::Des) => Command::Pde,
+        (false, true, Command::Nop | Command::Des) if fell_asleep(past) => Command::Srx,
+        (false, true, Command::Nop | Command::Des) => Command::Pdx,
         _ => Command::Forbidden,
     }
 }
 
+/// Which exit a rise of CKE is goes by the latest fall: true if that was an SRE.
+fn fell_asleep(past: &[Event]) -> bool {
+    let falls = |event: &&Event| match event.command {
+        Command::Sre | Command::Pde => true,
+        Command::Forbidden => !event.cke,
+        _ => false,
+    };
+    past.iter().rev().find(falls).is_some_and(|fall| fall.command == Command::Sre)
+}
+
+/// In self-refresh behind these records.
+pub fn asleep_after(past: &[Event]) -> bool {
+    !cke_after(past) && fell_asleep(past)
+}
+
+/// The entry of the power-down that the part is in behind these records.
+pub fn entry_of_stay(past: &[Event]) -> Option<&Event> {
+    past.iter().rev().find(|event| event.changes_cke()).filter(|change| change.command == Command::Pde)
+}
+
+/// A PDX from precharge power-down (no bank open at the entry; a closing one counts as closed) with A12 = 0 in MR0.
+fn is_slow_exit(past: &[Event], registers: &Registers, command: Command) -> bool {
+    let a12_low = registers.0[0].is_some_and(|code| code >> 12 & 1 == 0);
+    let entry = || past.iter().rposition(|event| event.command == Command::Pde);
+    command == Command::Pdx && a12_low && entry().is_some_and(|place| none_open(&past[..place]))
+}
+
 /// A record with what its past says of it: its number and edge, its command,
-/// and the registers in force at it.
+/// the registers in force at it, and whether it is an exit that rule 30 counts from.
 #[derive(Clone, Copy, Debug)]
 pub struct Event {
     pub number: usize,
@@ -94,18 +127,21 @@ pub struct Event {
     pub bank: u8,
     pub a: u16,
     pub registers: Registers,
+    pub slow_exit: bool,
 }
 
 impl Event {
     pub fn after(past: &[Event], record: &Record) -> Event {
+        let (command, registers) = (command_of(past, record), registers_after(past));
         Event {
             number: past.len() + 1,
             edge: last_edge(past) + record.step,
-            command: command_of(cke_after(past), record),
+            command,
             cke: record.cke,
             bank: record.ba,
             a: record.a,
-            registers: registers_after(past),
+            registers,
+            slow_exit: is_slow_exit(past, &registers, command),
         }
     }
 
@@ -117,9 +153,15 @@ impl Event {
         self.a >> 12 & 1 == 1
     }
 
-    /// "Command" excludes NOP, DES, SRX; with CKE staying low none is given.
+    /// "Command" excludes NOP, DES, SRX and power-down's entry and exit; with CKE staying low none is given.
     pub fn is_command(&self) -> bool {
-        !matches!(self.command, Command::Nop | Command::Des | Command::Srx | Command::Low)
+        !matches!(self.command, Command::Nop | Command::Des | Command::Low)
+            && (!self.changes_cke() || self.command == Command::Sre)
+    }
+
+    /// A change of CKE that rule 1 allows.
+    pub fn changes_cke(&self) -> bool {
+        matches!(self.command, Command::Sre | Command::Srx | Command::Pde | Command::Pdx)
     }
 }
 

@@ -1,4 +1,4 @@
-//! Rules 1 to 23: whether the last record of a past breaks a rule.
+//! Rules 1 to 30 but for the deadlines: whether the last record of a past breaks a rule.
 //! Each rule looks back over all earlier records; the paper's sentence stands beside it.
 
 use crate::banks::{bank_at, covers, precharge_start, Bank};
@@ -16,12 +16,8 @@ pub struct Break {
     pub found: i64,
 }
 
-/// The lowest of rules 1 to 23 that the last record breaks.
-pub fn broken_by_record(header: &Header, past: &[Event]) -> Option<Break> {
-    (1..=23).find_map(|rule| breaks(header, past, rule))
-}
-
-fn breaks(header: &Header, past: &[Event], rule: u8) -> Option<Break> {
+/// How the last record breaks the rule, if it does.
+pub fn broken_by_record(header: &Header, past: &[Event], rule: u8) -> Option<Break> {
     let (last, earlier) = past.split_last()?;
     let at_last = Break { rule, record: last.number, edge: last.edge, ..Break::default() };
     let without_clocks = |partner: usize| Break { partner, ..at_last };
@@ -71,7 +67,7 @@ fn lacks_registers(header: &Header, past: &[Event]) -> Option<i64> {
     }
 }
 
-fn resets_dll(event: &Event) -> bool {
+pub fn resets_dll(event: &Event) -> bool {
     event.command == Mrs && event.bank == 0 && is_dll_reset(event.a)
 }
 
@@ -101,6 +97,14 @@ pub fn needed(header: &Header, rule: u8, earlier: &Event, later: &Event) -> Opti
         (20, Srx, Rd) => Some(512),
         (21, Srx, _) if later.is_command() => Some(header.t_xs()),
         (22, Sre, Srx) => Some(header.t_cke() + 1),
+        (26, Rd, Pde) => Some(registers.rl() + 5),
+        (26, Wr, Pde) if earlier.a10() => Some(registers.wl() + registers.h() + registers.programmed_wr() + 1),
+        (26, Wr, Pde) => Some(registers.wl() + registers.h() + header.t_wr()),
+        (26, Mrs, Pde) => Some(header.t_mod()),
+        (26, Act | Pre | Ref, Pde) => Some(1),
+        (27, ..) if earlier.changes_cke() && later.changes_cke() => Some(header.t_cke()),
+        (29, Pdx, _) if later.is_command() => Some(header.t_xp()),
+        (30, Pdx, Rd) if earlier.slow_exit => Some(header.t_xpdll()),
         _ => None,
     }
 }

@@ -11,9 +11,10 @@ const PERIOD_BORDERS: [i64; 8] = [1070, 1250, 1500, 1641, 1875, 2500, 3000, 3300
 pub const CODE_BORDERS: [i64; 9] = [1250, 1249, 1500, 1499, 1875, 1874, 2500, 2499, 2999];
 
 /// Times whose clock counts change where the period divides them.
-const TIMES: [i64; 30] = [
+const TIMES: [i64; 31] = [
     13125, 12840, 50625, 49500, 48750, 47080, 37500, 36000, 35000, 34240, 7500, 10000, 6000, 5000, 50000, 45000, 40000,
     30000, 27000, 15000, 5625, 110_000, 160_000, 120_000, 170_000, 320_000, 80_000, 70_000_000, 7_800_000, 3_900_000,
+    24_000,
 ];
 
 /// A period at which the clock count of some time changes, or one more.
@@ -71,9 +72,12 @@ fn times_of_rule(header: &Header, rule: u8) -> Vec<i64> {
         15 => vec![refresh],
         18 => vec![320_000, 80_000],
         21 => vec![refresh + 10_000],
-        22 => vec![bin.t_cke],
+        22 | 27 => vec![bin.t_cke],
+        26 => vec![15000],
         24 => vec![70_000_000, 70_000_001],
-        25 => vec![7_800_000, 3_900_000, 7_800_001],
+        25 | 28 => vec![7_800_000, 3_900_000, 7_800_001],
+        29 => vec![7500, 6000],
+        30 => vec![24_000],
         _ => vec![],
     }
 }
@@ -98,6 +102,9 @@ pub fn header_for_rule(random: &mut Random, rule: u8) -> Header {
     if rule == 3 && random.chance(70) {
         return if random.chance(20) { header_of_forbidden_cl_5(random) } else { header_at_code_border(random) };
     }
+    if rule == 30 && random.chance(50) {
+        return header_of_slow_exits(random);
+    }
     loop {
         let header = random_header(random);
         let header = with_telling_period(random, header, rule);
@@ -118,6 +125,12 @@ pub fn header_for_rule(random: &mut Random, rule: u8) -> Header {
 fn header_of_forbidden_cl_5(random: &mut Random) -> Header {
     let header = random_header(random);
     Header { bin: 3, period: random.between(3000, GREATEST_PERIOD), ..header }
+}
+
+/// Short periods: after an exit there is time for an MRS, and a bank can still be closing at an entry.
+fn header_of_slow_exits(random: &mut Random) -> Header {
+    let header = random_header(random);
+    Header { bin: 3, period: random.between(least_period(3), 1333), ..header }
 }
 
 /// A bin that has the next period too: bin 3 has them all.

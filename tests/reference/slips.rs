@@ -1,6 +1,6 @@
 //! The controller's mistakes: a next record that breaks a given rule.
 
-use crate::controller::{pins_of, Controller};
+use crate::controller::{pins_of, Controller, SPACINGS};
 use crate::corners::corner;
 use crate::header::least_period;
 use crate::random::Random;
@@ -9,9 +9,15 @@ use crate::rules::latest_start;
 use crate::settings::{allowed_code, random_header, with_another_latency};
 use crate::verdict::broken_at;
 
+const DEADLINES: [u8; 3] = [24, 25, 28];
+
 /// Issues a next record; true if it breaks the rule, as far as the controller knows.
 pub fn slip(controller: &mut Controller, rule: u8) -> bool {
-    let often = if rule == 3 { 80 } else { 20 };
+    let often = match rule {
+        3 => 80,
+        24..=30 => 40,
+        _ => 20,
+    };
     if controller.random.chance(often) && corner(controller, rule).is_some() {
         return true;
     }
@@ -23,7 +29,7 @@ pub fn slip(controller: &mut Controller, rule: u8) -> bool {
     let tries = if rule <= 3 { 30 } else { 1 };
     for _ in 0..tries {
         let Some((record, edge)) = proposal(controller, rule) else { break };
-        if rule >= 24 || would_break(controller, &record, edge) == Some(rule) {
+        if DEADLINES.contains(&rule) || would_break(controller, &record, edge) == Some(rule) {
             controller.issue(record, edge);
             return true;
         }
@@ -58,7 +64,7 @@ fn proposal(controller: &mut Controller, rule: u8) -> Option<(Record, i64)> {
         3 if controller.random.chance(60) => Some(nearly_allowed(controller)),
         1..=3 => Some(any_record(controller)),
         23 => Some(self_refresh(controller)),
-        24 | 25 => at_deadline(controller, rule),
+        24 | 25 | 28 => at_deadline(controller, rule),
         _ => None,
     }
 }
@@ -144,8 +150,8 @@ fn late_precharge(controller: &mut Controller, deadline: i64) -> Option<(Record,
 /// The record one edge too soon for the rule (or more), and late enough for all lower rules, if that can be;
 /// else the record in good time.
 fn too_soon_for(controller: &mut Controller, record: Record, rule: u8) -> bool {
-    let rule = rule as usize;
-    if (4..=22).contains(&rule) {
+    if SPACINGS.contains(&rule) {
+        let rule = rule as usize;
         let edges = controller.least_edges(&record);
         let least = edges[..rule].iter().copied().fold(controller.now() + 1, i64::max);
         if least < edges[rule] {

@@ -40,7 +40,7 @@ fn name_of(call: &Call, answer: &Result<Vec<u8>, u32>) -> String {
 fn all_names(function: Function, checks: &[u32]) -> Vec<String> {
     let refusals = checks.iter().filter(|refusal| **refusal != 11).map(|refusal| format!("refused {refusal}"));
     let taken: Vec<String> = match function {
-        Judge => std::iter::once("clean".to_string()).chain((1..=25).map(|rule| format!("rule {rule}"))).collect(),
+        Judge => std::iter::once("clean".to_string()).chain((1..=30).map(|rule| format!("rule {rule}"))).collect(),
         Register => {
             let bits = all_bit_names().map(|name| format!("refused 11, {name}"));
             bits.chain((0..4).map(|number| format!("MR{number}"))).collect()

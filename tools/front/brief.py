@@ -32,9 +32,8 @@ def told(said, last):
     if 'record_file' not in said:
         return f'{last}: {name}: {passed(said, rule)}'
     if rule == 1:
-        entry = ': power-down entry, which is not judged' if said['record_power_down'] == '1' else ''
         change = f'CKE from {said["record_cke_before"]} to {said["record_cke"]} with pins {said["record_pins"]}'
-        return f'{place(said, "record")}: {name}: {change} at edge {said["record_edge"]}{entry}'
+        return f'{place(said, "record")}: {name}: {change} at edge {said["record_edge"]}'
     return f'{place(said, "record")}: {name}: {command(said, "record")} at edge {said["record_edge"]}{why(said, rule)}'
 
 
@@ -75,6 +74,6 @@ def counted_from(said):
 
 def passed(said, rule):
     partner = f'{command(said, "partner")} ({place(said, "partner")})' if 'partner_file' in said else 'none'
-    if rule == 24:
+    if rule in (24, 28):
         return f'passed at edge {said["edge"]}, {clocks(said["found"])} after {partner}, at most {said["needed"]}'
     return f'{said["found"]} refreshes owed at edge {said["edge"]}, at most {said["needed"]}; last REF {partner}'

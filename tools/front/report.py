@@ -45,6 +45,8 @@ def counts(said, rule):
         yield f'  limit: greatest tRAS 70000000 ps / {said["period_ps"]} ps, rounded down = {said["needed"]} clocks'
     elif rule == 25:
         yield f'  limit: a debt of 8; each {said["clocks_trefi"]} clocks awake one refresh falls due'
+    elif rule == 28:
+        yield f'  limit: nine times tREFI, 9 x {said["clocks_trefi"]} = {said["needed"]} clocks'
     else:
         sum_ = needed(said)
         yield f'  found {said["found"]}, needed {said["needed"]} clocks' + (f': {sum_}' if sum_ else '')
@@ -74,13 +76,13 @@ def files(said, every):
 
 
 def commands(said):
-    yield 'Commands: CKE before and now, CS RAS CAS WE, A10, and how many'
+    yield 'Commands: CKE before and now, asleep before, CS RAS CAS WE, A10, and how many'
     for key, levels in said.items():
         if key.startswith('levels_'):
             name, pattern = key[7:].rsplit('_', 1)
             count = f'{said["count_" + name]:>8}' if pattern == '1' else ' ' * 8
-            yield f'  {name:<9} {levels[0]} {levels[1]}  {" ".join(levels[2:6])}  {levels[6]} {count}  {said["meaning_" + name]}'
-    yield f'  {"all":<23}{said["count_all"]:>9}'
+            yield f'  {name:<9} {levels[0]} {levels[1]}  {levels[2]}  {" ".join(levels[3:7])}  {levels[7]} {count}  {said["meaning_" + name]}'
+    yield f'  {"all":<26}{said["count_all"]:>9}'
 
 
 def ending(said):

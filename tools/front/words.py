@@ -12,11 +12,11 @@ TROUBLES = {'unopened': 'it cannot be opened', 'unread': 'it cannot be read to i
 NAMES = {
     1: 'CKE change', 2: 'bank state', 3: 'registers', 4: 'tRCD', 5: 'tRP', 6: 'tRC', 7: 'tRRD', 8: 'tFAW', 9: 'tRAS', 10: 'AL + tRTP', 11: 'WL + h + tWR',
     12: 'column to column', 13: 'RD to WR', 14: 'WR to RD', 15: 'tRFC', 16: 'tMRD', 17: 'tMOD', 18: 'ZQ time', 19: 'RL + b', 20: 'DLL', 21: 'tXS', 22: 'tCKE + 1',
-    23: 'REF between SRX and SRE', 24: 'greatest tRAS', 25: 'refresh debt',
+    23: 'REF between SRX and SRE', 24: 'greatest tRAS', 25: 'refresh debt', 26: 'power-down entry', 27: 'tCKE', 28: 'greatest stay', 29: 'tXP', 30: 'tXPDLL',
 }
 
 RULES = {
-    1: 'CKE changes only for a self-refresh entry or exit',
+    1: 'CKE changes only to enter or leave self-refresh or power-down',
     2: 'an ACT needs an idle bank, RD and WR an open one, REF, MRS, ZQ and SRE all banks idle, a PRE no closing bank',
     3: 'an MRS needs an allowed code and BA below 4, an ACT all four registers written, a RD a DLL reset',
     4: 'from an ACT to a RD or WR of its bank at least tRCD - AL, and 1',
@@ -41,4 +41,9 @@ RULES = {
     23: 'between an SRX and the next SRE there is a REF',
     24: "a bank's precharge starts no later than its ACT and the greatest tRAS",
     25: 'the refresh debt stays below 9',
+    26: 'from a RD to a power-down entry at least RL + 5, from a WR WL + h + tWR, from one with auto precharge WL + h + WR + 1, from an MRS tMOD',
+    27: 'from a change of CKE to the next at least tCKE',
+    28: "a power-down ends no later than its entry and nine times tREFI's clocks",
+    29: 'from a power-down exit to any command at least tXP',
+    30: 'from the exit of a precharge power-down, with A12 = 0 in MR0, to a RD at least tXPDLL',
 }

@@ -11,30 +11,32 @@ use Rattle.laws.proofs.Both.{both}
 use Rattle.laws.proofs.Eight.{getD-table, getD-first, getD-second, table-ext}
 use Rattle.records.specs.declared.Record.{Record}
 use Rattle.records.specs.declared.Command.{Command}
-use Rattle.records.specs.declared.Command.the-variants.{Mrs, Ref, Pre, Act, Wr, Rd, Zq, Sre, Srx}
+use Rattle.records.specs.declared.Command.the-variants.{Mrs, Ref, Pre, Act, Wr, Rd, Zq, Sre, Srx, Pdx}
 use Rattle.chip.specs.declared.Chip.{Chip}
 use Rattle.chip.specs.declared.Regs.{Regs}
 use Rattle.running.specs.Next.{need4, need10, need11}
 use Rattle.edges.specs.Asks.{need13, need14, need19, fourBack, when, asksAct, asksRd, asksWr, asksPre, asksRef, asksMrs, asksSre, waitsNext}
-use Rattle.edges.specs.Next.{startOf}
+use Rattle.edges.specs.Next.{startOf, slowNow}
 use Rattle.rules.specs.Past.{Past, edge, number, command, is, on, back}
 use Rattle.rules.specs.Registers.{regs, dllReset}
 use Rattle.rules.specs.Banks.{actOn, closes, shuts}
+use Rattle.rules.specs.Down.{slowExit}
 use Rattle.rules.specs.Search.{asking}
-use Rattle.rules.specs.Rules.{r6, r7, r9, r12r, r12w, r15, r16, r17, r18, r20, r21}
+use Rattle.rules.specs.Rules.{r6, r7, r9, r12r, r12w, r15, r16, r17, r18, r20, r21, r29, r30}
 use Rattle.rules.specs.Waiting.{Ask, by, byStart, afterFourth, byFourth, asks, asked, wait}
+use Rattle.rules.proofs.Clean.{Clean}
 use Rattle.rules.proofs.Waiting.{moves}
-use Rattle.carries.proofs.Summary.{turnOf, actsOf, banksOf, waitsOf}
+use Rattle.carries.proofs.Summary.{turnOf, actsOf, banksOf, waitsOf, deviceOf}
 use Rattle.carries.proofs.Views.{turn-small, ring-at}
 use Rattle.carries.proofs.Shut.{closes-shuts}
-use Rattle.carries.proofs.Moves.{regs-still, start-kept}
+use Rattle.carries.proofs.Moves.{regs-still, start-kept, slow-is}
 
 -- asked where x holds
 asked-where : (x : Bool) (m n : ℕ) → (x ≡ true → m ≡ n) → when x m ≡ cond x n 0
 asked-where true m n h = h refl
 asked-where false m n h = refl
 
-module _ (C : Chip) (r : Record) (p : Past) where
+module _ (C : Chip) (r : Record) (p : Past) (h : Clean C p) where
   abbrev e : ℕ
   e = edge (r ∷ p)
 
@@ -46,6 +48,9 @@ module _ (C : Chip) (r : Record) (p : Past) where
 
   abbrev four : ℕ
   four = fourBack C (actsOf p)
+
+  abbrev slow : Bool
+  slow = slowNow (banksOf C p) (deviceOf C p)
 
   -- what the rule a asks by the record itself
   abbrev one : Ask → ℕ
@@ -90,57 +95,61 @@ module _ (C : Chip) (r : Record) (p : Past) where
   wr-regs : is Wr (r ∷ p) ≡ true → regs p ≡ regs (r ∷ p)
   wr-regs y = regs-still r p Wr (λ z. omega arith) y
 
+  -- rule 30
+  thirty : when (is Pdx (r ∷ p) && slow) (e + C .txpdll) ≡ one (by C r30 (slowExit C))
+  thirty = ap (λ x. cond x (e + C .txpdll) 0) (slow-is r p C h)
+
   -- ── One command ───────────────────────────────────────────────────────────────────────────
 
   module _ (b : ℕ) where
-    asks-act : asksAct C c r e (regs p) from four b ≡ asked C Act b (r ∷ p)
+    asks-act : asksAct C c r e (regs p) from four slow b ≡ asked C Act b (r ∷ p)
     unfolding asksAct asked asks
     asks-act = λ i. max (five b i) (max (one (by C r6 (actOn b))) (max (one (by C r7 (is Act))) (max (eight i)
-        (max (one (by C r15 (is Ref))) (max (one (by C r17 (is Mrs))) (max (one (by C r18 (is Zq))) (max (one (by C r21 (is Srx))) 0)))))))
+        (max (one (by C r15 (is Ref))) (max (one (by C r17 (is Mrs))) (max (one (by C r18 (is Zq))) (max (one (by C r21 (is Srx))) (max (one (by C r29 (is Pdx))) 0))))))))
 
-    asks-rd : asksRd C c r e (regs p) from four b ≡ asked C Rd b (r ∷ p)
+    asks-rd : asksRd C c r e (regs p) from four slow b ≡ asked C Rd b (r ∷ p)
     unfolding asksRd asked asks
     asks-rd = λ i. max (by-regs (actOn b (r ∷ p)) (need4 C) (act-regs b) i) (max (one (by C r12r (is Rd)))
         (max (by-regs (is Wr (r ∷ p)) (need14 C) wr-regs i) (max (one (by C r15 (is Ref))) (max (one (by C r17 (is Mrs)))
-        (max (one (by C r18 (is Zq))) (max (one (by C r20 (λ s. dllReset s || is Srx s))) (max (one (by C r21 (is Srx))) 0)))))))
+        (max (one (by C r18 (is Zq))) (max (one (by C r20 (λ s. dllReset s || is Srx s))) (max (one (by C r21 (is Srx))) (max (one (by C r29 (is Pdx))) (max (thirty i) 0)))))))))
 
-    asks-wr : asksWr C c r e (regs p) from four b ≡ asked C Wr b (r ∷ p)
+    asks-wr : asksWr C c r e (regs p) from four slow b ≡ asked C Wr b (r ∷ p)
     unfolding asksWr asked asks
     asks-wr = λ i. max (by-regs (actOn b (r ∷ p)) (need4 C) (act-regs b) i) (max (one (by C r12w (is Wr)))
         (max (by-regs (is Rd (r ∷ p)) (λ g. need13 g r) rd-regs i) (max (one (by C r15 (is Ref))) (max (one (by C r17 (is Mrs)))
-        (max (one (by C r18 (is Zq))) (max (one (by C r21 (is Srx))) 0))))))
+        (max (one (by C r18 (is Zq))) (max (one (by C r21 (is Srx))) (max (one (by C r29 (is Pdx))) 0)))))))
 
-    asks-pre : asksPre C c r e (regs p) from four b ≡ asked C Pre b (r ∷ p)
+    asks-pre : asksPre C c r e (regs p) from four slow b ≡ asked C Pre b (r ∷ p)
     unfolding asksPre asked asks
     asks-pre = λ i. max (one (by C r9 (actOn b)))
         (max (by-regs (is Rd (r ∷ p) && on b (r ∷ p)) (need10 C) (λ y. rd-regs (both (is Rd (r ∷ p)) _ y .0)) i)
         (max (by-regs (is Wr (r ∷ p) && on b (r ∷ p)) (need11 C) (λ y. wr-regs (both (is Wr (r ∷ p)) _ y .0)) i)
-        (max (one (by C r15 (is Ref))) (max (one (by C r17 (is Mrs))) (max (one (by C r18 (is Zq))) (max (one (by C r21 (is Srx))) 0))))))
+        (max (one (by C r15 (is Ref))) (max (one (by C r17 (is Mrs))) (max (one (by C r18 (is Zq))) (max (one (by C r21 (is Srx))) (max (one (by C r29 (is Pdx))) 0)))))))
 
-  asks-ref : asksRef C c r e (regs p) from four ≡ asked C Ref 0 (r ∷ p)
+  asks-ref : asksRef C c r e (regs p) from four slow ≡ asked C Ref 0 (r ∷ p)
   unfolding asksRef asked asks
   asks-ref = λ i. max (five-all i)
-      (max (one (by C r15 (is Ref))) (max (one (by C r17 (is Mrs))) (max (one (by C r18 (is Zq))) (max (one (by C r21 (is Srx))) 0))))
+      (max (one (by C r15 (is Ref))) (max (one (by C r17 (is Mrs))) (max (one (by C r18 (is Zq))) (max (one (by C r21 (is Srx))) (max (one (by C r29 (is Pdx))) 0)))))
 
-  asks-zq : asksRef C c r e (regs p) from four ≡ asked C Zq 0 (r ∷ p)
+  asks-zq : asksRef C c r e (regs p) from four slow ≡ asked C Zq 0 (r ∷ p)
   unfolding asked asks
   asks-zq = asks-ref
 
-  asks-mrs : asksMrs C c r e (regs p) from four ≡ asked C Mrs 0 (r ∷ p)
+  asks-mrs : asksMrs C c r e (regs p) from four slow ≡ asked C Mrs 0 (r ∷ p)
   unfolding asksMrs asked asks
   asks-mrs = λ i. max (five-all i)
       (max (one (by C r15 (is Ref))) (max (one (by C r16 (is Mrs))) (max (one (by C r18 (is Zq)))
-      (max (by-regs (is Rd (r ∷ p)) (λ g. need19 g r) rd-regs i) (max (one (by C r21 (is Srx))) 0)))))
+      (max (by-regs (is Rd (r ∷ p)) (λ g. need19 g r) rd-regs i) (max (one (by C r21 (is Srx))) (max (one (by C r29 (is Pdx))) 0))))))
 
-  asks-sre : asksSre C c r e (regs p) from four ≡ asked C Sre 0 (r ∷ p)
+  asks-sre : asksSre C c r e (regs p) from four slow ≡ asked C Sre 0 (r ∷ p)
   unfolding asksSre asked asks
   asks-sre = λ i. max (five-all i)
       (max (one (by C r15 (is Ref))) (max (one (by C r17 (is Mrs))) (max (one (by C r18 (is Zq)))
-      (max (by-regs (is Rd (r ∷ p)) (λ g. need19 g r) rd-regs i) (max (one (by C r21 (is Srx))) 0)))))
+      (max (by-regs (is Rd (r ∷ p)) (λ g. need19 g r) rd-regs i) (max (one (by C r21 (is Srx))) (max (one (by C r29 (is Pdx))) 0))))))
 
   -- ── The waiting times ─────────────────────────────────────────────────────────────────────
 
-  pub waits-next : waitsNext C c r e (regs p) from four (waitsOf C p) ≡ waitsOf C (r ∷ p)
+  pub waits-next : waitsNext C c r e (regs p) from four slow (waitsOf C p) ≡ waitsOf C (r ∷ p)
   unfolding waitsNext waitsOf
   waits-next = λ i. record {
     act = table-ext _ (λ b. wait C Act b (r ∷ p)) (λ b l. raised Act b (getD-table (λ b. wait C Act b p) b 0 l) (asks-act b)) i;

@@ -1,13 +1,14 @@
--- What a record breaks of rules 1 to 23, by the summary's waiting times and marks, is what the rules say, looking back.
+-- What a record breaks of the rules, by the summary's waiting times and marks, is what the rules say, looking back.
 -- Assumes nothing.
-use Prim.Native.Nat.{ℕ, zero, suc, _+_, _≤_, max}
+use Prim.Native.Nat.{ℕ, zero, suc, _+_, _-_, _≤_, max}
 use native.Mathlib.Omega.{arith}
 use mathlib.Core.Path.{_≡_, refl, sym, ap, _∙_}
 use mathlib.Core.Logic.{⊎-elim}
-use mathlib.Core.Bool.{true, false, cond, _&&_}
+use mathlib.Core.Bool.{Bool, true, false, cond, _&&_}
 use mathlib.Core.List.{List, [], _∷_, _++_}
 use lib.Dec.{leb}
 use borrow.Author.Tests.{leb-true}
+use Rattle.laws.proofs.Both.{both}
 use Rattle.laws.specs.Eight.{table}
 use Rattle.laws.proofs.Eight.{getD-table, getD-first, getD-second}
 use Rattle.answers.specs.declared.Break.{Break}
@@ -15,25 +16,31 @@ use Rattle.answers.specs.declared.Break.the-variants.{Fine, Broken}
 use Rattle.answers.specs.Answer.{orElse}
 use Rattle.records.specs.declared.Record.{Record}
 use Rattle.records.specs.declared.Command.{Command}
-use Rattle.records.specs.declared.Command.the-variants.{Mrs, Ref, Pre, Act, Wr, Rd, Zq, Nop, Des, Sre, Srx, Low, Bad}
+use Rattle.records.specs.declared.Command.the-variants.{Mrs, Ref, Pre, Act, Wr, Rd, Zq, Nop, Des, Sre, Srx, Low, Bad, Pde, Pdx}
 use Rattle.records.specs.Command.{isA, a10, bankIn}
 use Rattle.chip.specs.declared.Chip.{Chip}
 use Rattle.running.specs.Breaks.{rule1, rule2, rule3}
+use Rattle.running.specs.Down.{rule26}
+use Rattle.edges.specs.Views.{keptsOf, sharedOf}
 use Rattle.edges.specs.Asks.{greatest, waitFor}
-use Rattle.edges.specs.Says.{lastRules, spacedIn, brokenIn}
-use Rattle.rules.specs.Past.{Past, edge, command, is, latest}
-use Rattle.rules.specs.Rules.{spacing, spaced, r22, rule23, checks, breakAt}
+use Rattle.edges.specs.Says.{lastRules, spacedIn, brokenIn, entryOver, changedIn, leftIn}
+use Rattle.rules.specs.Past.{Past, edge, changes, command, is, latest}
+use Rattle.rules.specs.Search.{row}
+use Rattle.rules.specs.Rules.{spacing, spaced, r22, r26, rule23, checks, changeChecks, exitChecks, breakAt}
 use Rattle.rules.specs.Waiting.{asks, ofBanks, wait, waitAt, spacingRules}
 use Rattle.rules.proofs.Generic.{decide, constant-dominated}
+use Rattle.rules.proofs.Events.{orElse-fine}
 use Rattle.rules.proofs.Clean.{Clean}
 use Rattle.rules.proofs.Facts.{Sound}
 use Rattle.rules.proofs.Summary.{mark, rests, shared}
 use Rattle.rules.proofs.Words.{or-fine, spacingChecks}
 use Rattle.rules.proofs.Agree.{row-also, marks23, spacings-agree, agrees2, agrees3}
-use Rattle.rules.proofs.Allowing.{waits-allow}
-use Rattle.carries.proofs.Summary.{waitsOf, summary}
+use Rattle.rules.proofs.Changing.{agrees26, agrees27, exits-agree}
+use Rattle.rules.proofs.Entered.{entry-over}
+use Rattle.rules.proofs.Allowing.{of-banks, waits-allow}
+use Rattle.carries.proofs.Summary.{debtOf, actsOf, banksOf, waitsOf, deviceOf, summary}
 use Rattle.carries.proofs.Views.{kepts-view, written-view}
-use Rattle.carries.proofs.Marks.{spacings-view, last-view}
+use Rattle.carries.proofs.Marks.{spacings-view, last-view, entry-view, held-view, exit-view}
 
 -- ── The waiting time ────────────────────────────────────────────────────────────────────────
 
@@ -59,6 +66,8 @@ wait-for C p Des r = refl
 wait-for C p Srx r = refl
 wait-for C p Low r = refl
 wait-for C p Bad r = refl
+wait-for C p Pde r = refl
+wait-for C p Pdx r = refl
 
 pub wait-at : (C : Chip) (r : Record) (p : Past) → waitFor (waitsOf C p) (command (r ∷ p)) r ≡ waitAt C r p
 unfolding waitAt
@@ -89,17 +98,21 @@ module _ (C : Chip) (S : Sound C) (r : Record) (p : Past) (h : Clean C p) where
       row-also C S r p h (spacing C r22) (mark (λ _. C .tcke + 1) (latest (is Sre) p)) (constant-dominated _ (C .tcke + 1) p) refl
       (marks23 C S r p h ∙ sym (or-fine (rule23 C r p)))
 
-  -- where the waiting time is over none of rules 4 to 21 is broken
+  -- where the waiting time is over none of rules 4 to 21, 29 and 30 is broken
+  all-over : leb (waitFor (waitsOf C p) c r) e ≡ true → (breakAt (spacingRules C) r p ≡ Fine) × (breakAt (exitChecks C) r p ≡ Fine)
+  all-over y =
+      let l : waitFor (waitsOf C p) (command (r ∷ p)) r ≤ edge (r ∷ p) = leb-true _ _ y in
+      let w = wait-at C r p in
+      orElse-fine _ _ (sym (break-append (spacingRules C) (exitChecks C) r p) ∙ waits-allow C S r p .1 (omega arith))
+
   over : leb (waitFor (waitsOf C p) c r) e ≡ true → breakAt (spacingChecks C) r p ≡ breakAt (spaced C r22 ∷ rule23 C ∷ []) r p
   unfolding orElse
   over y =
-      let l : waitFor (waitsOf C p) (command (r ∷ p)) r ≤ edge (r ∷ p) = leb-true _ _ y in
-      let w = wait-at C r p in
       break-append (spacingRules C) (spaced C r22 ∷ rule23 C ∷ []) r p
-      ∙ ap (λ x. orElse x (breakAt (spaced C r22 ∷ rule23 C ∷ []) r p)) (waits-allow C S r p .1 (omega arith))
+      ∙ ap (λ x. orElse x (breakAt (spaced C r22 ∷ rule23 C ∷ []) r p)) (all-over y .0)
 
   spaced-in : spacedIn C (summary C p) r e ≡ breakAt (spacingChecks C) r p
-  unfolding spacedIn summary
+  unfolding spacedIn summary debtOf
   spaced-in = ⊎-elim
       (λ (y : leb (waitFor (waitsOf C p) c r) e ≡ true). rw y (last-view C p h c e ∙ last-agree ∙ sym (over y)))
       (λ (n : leb (waitFor (waitsOf C p) c r) e ≡ false). rw n (spacings-view C p h c r e (bankIn r) (omega arith) ∙ spacings-agree C S r p h))
@@ -107,7 +120,41 @@ module _ (C : Chip) (S : Sound C) (r : Record) (p : Past) (h : Clean C p) where
 
   -- what the record breaks is what the rules say, looking back over all of the past
   pub broken-in : brokenIn C (summary C p) r (edge (r ∷ p)) ≡ breakAt (checks C) r p
-  unfolding brokenIn summary
+  unfolding brokenIn summary debtOf
   broken-in = λ i.
       orElse (rule1 c) (orElse ((ap (λ ks. rule2 c r ks e) (kepts-view C p) ∙ agrees2 C S r p h) i)
       (orElse ((ap (rule3 C c r) (written-view C p) ∙ agrees3 C S r p h) i) (spaced-in i)))
+
+  -- ── Rules 26, 27, 29 and 30 ───────────────────────────────────────────────────────────────
+
+  -- where the waiting times are over an entry breaks nothing
+  entered : entryOver (waitsOf C p) e ≡ true → row (spacing C r26) r p ≡ Fine
+  unfolding waitsOf
+  entered y =
+      let w = both (leb (greatest (table (λ b. wait C Pre b p)) 8) e) (leb 3 (e - wait C Sre 0 p)) y in
+      let g : greatest (table (λ b. wait C Pre b p)) 8 ≤ edge (r ∷ p) = leb-true _ _ (w .0) in
+      let l : ofBanks (λ b. wait C Pre b p) 8 ≤ edge (r ∷ p) = rw (greatest-of (λ b. wait C Pre b p) 8 (omega arith)) at g in
+      let k = leb-true 3 (e - wait C Sre 0 p) (w .1) in
+      ap (λ x. cond (is Pde (r ∷ p)) x Fine) (entry-over C S p h e (of-banks C S r p (λ b. wait C Pre b p) 8 l) (omega arith)) ∙ either-way (is Pde (r ∷ p))
+    where
+      either-way : (x : Bool) → _≡_ {A = Break} (cond x Fine Fine) Fine
+      either-way true = refl
+      either-way false = refl
+
+  entry-in : 1 ≤ r .step
+      → cond (entryOver (waitsOf C p) e) Fine (rule26 C c (keptsOf C (banksOf C p)) (sharedOf C (banksOf C p) (actsOf p) (deviceOf C p)) e) ≡ row (spacing C r26) r p
+  entry-in far = ⊎-elim
+      (λ (y : entryOver (waitsOf C p) e ≡ true). rw y (sym (entered y)))
+      (λ (n : entryOver (waitsOf C p) e ≡ false). rw n (entry-view C p h c e ∙ agrees26 C S r p h far))
+      (decide (entryOver (waitsOf C p) e))
+
+  pub changed-in : 1 ≤ r .step → changedIn C (summary C p) r (edge (r ∷ p)) ≡ breakAt (changeChecks C) r p
+  unfolding changedIn summary debtOf
+  changed-in far = λ i. orElse (entry-in far i) ((held-view C p h (changes (r ∷ p)) e ∙ agrees27 C S r p h far) i)
+
+  pub left-in : 1 ≤ r .step → leftIn C (summary C p) r (edge (r ∷ p)) ≡ breakAt (exitChecks C) r p
+  unfolding leftIn summary debtOf
+  left-in far = ⊎-elim
+      (λ (y : leb (waitFor (waitsOf C p) c r) e ≡ true). rw y (sym (all-over y .1)))
+      (λ (n : leb (waitFor (waitsOf C p) c r) e ≡ false). rw n (exit-view C p h c e ∙ exits-agree C S r p h far))
+      (decide (leb (waitFor (waitsOf C p) c r) e))

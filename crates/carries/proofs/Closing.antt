@@ -14,7 +14,7 @@ use Rattle.laws.proofs.Eight.{table-ext}
 use Rattle.answers.specs.declared.Break.{Break}
 use Rattle.answers.specs.declared.Break.the-variants.{Fine, Broken}
 use Rattle.answers.specs.declared.Verdict.{Verdict}
-use Rattle.answers.specs.Answer.{shownOf, orElse}
+use Rattle.answers.specs.Answer.{shownOf}
 use Rattle.chip.specs.declared.Chip.{Chip}
 use Rattle.running.specs.Breaks.{statusOf}
 use Rattle.running.specs.declared.Late.{Late}
@@ -24,9 +24,9 @@ use Rattle.running.specs.Ends.{restOf, registersOf}
 use Rattle.edges.specs.Views.{keptOf, regsOf, writtenOf}
 use Rattle.edges.specs.Ends as edges
 use Rattle.edges.specs.Ends.{nextLate, verdictOf, banksAt, endOf}
-use Rattle.rules.specs.Past.{Past, edge, number, upTo}
+use Rattle.rules.specs.Past.{Past, edge, number, asleep, upTo}
 use Rattle.rules.specs.Banks.{status}
-use Rattle.rules.specs.Deadlines.{rule25, asleep, awakeTo, owedTo, owedAt}
+use Rattle.rules.specs.Deadlines.{rule25, awakeTo, owedTo, owedAt}
 use Rattle.rules.specs.Verdict.{Outcome, clean, stop, brokenAt, verdictTo, shown, shownVerdict, rest, answer, Apart}
 use Rattle.rules.proofs.Generic.{decide, broken-fine}
 use Rattle.rules.proofs.Facts.{Sound}
@@ -34,8 +34,8 @@ use Rattle.rules.proofs.Debts.{owed-at, owed-now}
 use Rattle.rules.proofs.Status.{status-of}
 use Rattle.rules.proofs.Numbered.{keep-clean, told-clean, by-number}
 use Rattle.rules.proofs.Sense.{stays-to, stop-at, stop-after, clean-edges, earliest}
-use Rattle.rules.proofs.Gap.{now24, now25}
-use Rattle.rules.proofs.Edges.{up-to-all, gap-says, late-after, small-owed}
+use Rattle.rules.proofs.Gap.{nowAny}
+use Rattle.rules.proofs.Edges.{up-to-all, clean-past, gap-says, late-after, small-owed, near-stay}
 use Rattle.rules.proofs.Turn.{said}
 use Rattle.rules.proofs.Closing.{rest-shown, registersIn, registers-in, answer-of}
 use Rattle.carries.proofs.Summary.{clocksLeft, debtOf, banksOf, deviceOf, summary}
@@ -98,7 +98,7 @@ module _ (C : Chip) (pos : 0 < C .trefi) where
   unfolding owedTo
   owed-small p apart zero h = rw (up-to-zero p apart) (omega (arith, owed-now pos []))
   owed-small p apart (suc u) h =
-      let w = keep-clean _ _ (keep-clean _ _ (sym (by-number C p (suc u)) ∙ h (omega arith)) .1) .1 in
+      let w = keep-clean _ _ (keep-clean _ _ (keep-clean _ _ (sym (by-number C p (suc u)) ∙ h (omega arith)) .1) .1) .0 in
       let fine = told-clean (suc u) 0 (rule25 C p (suc u)) w in
       ⊎-elim
       (λ (y : leb 17 (owedAt (C .trefi) (upTo (suc u) p) (suc u)) ≡ true). absurd (broken-fine (rw y at fine)))
@@ -147,14 +147,14 @@ module _ (C : Chip) (S : Sound C) (p : Past) (t : ℕ) where
 
   -- the edges after a clean past up to the end
   end-says : Apart p → edge p ≤ t → verdictTo C p (edge p) ≡ clean → verdictOf C (summary C p) t ≡ shownVerdict C p t
-  unfolding verdictOf summary nextLate deviceOf
+  unfolding verdictOf summary nextLate deviceOf debtOf
   end-says apart l z =
       let e : t + 1 - 1 ≡ t = omega arith in
       let pos = S .refi-least in
       go (ltb (x .at) (t + 1))
       ∙ ap (λ v. shown v (number p) t)
-      (sym (gap-says C p (λ u. orElse (now24 C p u) (now25 C p u)) (edge p) (t + 1) (t + 1) x (omega arith) (omega arith)
-      (λ u a b. late-after C pos p u a) (due-next C p pos (small-owed C pos p apart z) (t + 1)) z)
+      (sym (gap-says C p (nowAny C p) (edge p) (t + 1) (t + 1) x (omega arith) (omega arith)
+      (λ u a b. late-after C pos p u a) (due-next C p pos (small-owed C pos p apart z) (clean-past C p apart z) (near-stay C p apart z) (t + 1)) z)
       ∙ ap (verdictTo C p) e)
     where
       x : Late

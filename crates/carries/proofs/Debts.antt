@@ -10,13 +10,14 @@ use mathlib.Core.Bool.{Bool, true, false, cond, not, _&&_, _||_}
 use mathlib.Core.List.{_∷_}
 use borrow.Author.Tests.{le-leb, lt-leb}
 use Rattle.records.specs.declared.Record.{Record}
-use Rattle.records.specs.declared.Command.the-variants.{Ref, Sre, Srx}
+use Rattle.records.specs.declared.Command.the-variants.{Ref, Sre, Srx, Bad}
 use Rattle.chip.specs.declared.Chip.{Chip}
 use Rattle.edges.specs.declared.Debt.{Debt}
 use Rattle.edges.specs.Next.{paid, debtNext}
-use Rattle.rules.specs.Past.{Past, edge, command, is}
-use Rattle.rules.specs.Deadlines.{asleep, awakeTo, owedTo}
+use Rattle.rules.specs.Past.{Past, edge, asleep, command, is}
+use Rattle.rules.specs.Deadlines.{awakeTo, owedTo}
 use Rattle.rules.proofs.Events.{never}
+use Rattle.rules.proofs.Sleeping.{sleeps-on}
 use Rattle.rules.proofs.Clean.{is-other}
 use Rattle.rules.proofs.Debts.{phase-step, owed-step}
 use Rattle.carries.proofs.Summary.{clocksLeft, debtOf}
@@ -130,11 +131,12 @@ next-is T E x j k true false false false d h g = let e = g refl in ap (debt true
 next-is T E x j k false false false false d h g = let e = g refl in ap (debt false) (omega arith)
 
 pub debt-next :
-    (C : Chip) → 0 < C .trefi → (r : Record) (p : Past) → owedTo (C .trefi) p ≤ 16 → owedTo (C .trefi) (r ∷ p) ≤ 16
+    (C : Chip) → 0 < C .trefi → (r : Record) (p : Past) → is Bad (r ∷ p) ≡ false → owedTo (C .trefi) p ≤ 16 → owedTo (C .trefi) (r ∷ p) ≤ 16
     → debtNext C (command (r ∷ p)) (edge (r ∷ p)) (debtOf (C .trefi) p) ≡ debtOf (C .trefi) (r ∷ p)
-unfolding debtNext debtOf asleep
-debt-next C pos r p small after =
+unfolding debtNext debtOf
+debt-next C pos r p good small after =
     next-is (C .trefi) (edge p) (r .step) (clocksLeft (C .trefi) p) (clocksLeft (C .trefi) (r ∷ p))
     (asleep p) (is Ref (r ∷ p)) (is Sre (r ∷ p)) (is Srx (r ∷ p))
     (λ y. (is-other Ref Sre (r ∷ p) (λ z. omega arith) y, is-other Ref Srx (r ∷ p) (λ z. omega arith) y))
     (left-ref pos r p small after) (left-other pos r p small after)
+    ∙ ap (λ s. debt s (cond s 0 (edge (r ∷ p)) + clocksLeft (C .trefi) (r ∷ p))) (sym (sleeps-on r p good))

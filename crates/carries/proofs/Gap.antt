@@ -1,4 +1,4 @@
--- Rules 24 and 25 over a gap and at a record's edge, by the summary: the deadlines are those of the rules' summary.
+-- Rules 24, 25 and 28 over a gap and at a record's edge, by the summary: the deadlines are those of the rules' summary.
 -- Assumes nothing.
 use Prim.Native.Nat.{ℕ, zero, suc, _+_, _-_, _*_, _/_, _%_, _≤_, _<_}
 use native.Mathlib.Nat.{add-mul, mod-lt, le-div-iff-mul-le}
@@ -20,22 +20,25 @@ use Rattle.chip.specs.declared.Chip.{Chip}
 use Rattle.running.specs.declared.Late.{Late}
 use Rattle.running.specs.Marks.{empty}
 use Rattle.running.specs.Next.{due}
-use Rattle.running.specs.Late.{better, soonest, why, sooner, late24}
+use Rattle.running.specs.Late.{better, soonest, why, sooner, lateBy, stayUntil}
 use Rattle.running.specs.Deadlines as running
 use Rattle.edges.specs.Views.{keptOf}
-use Rattle.edges.specs.Says.{duesOf, next24, next25, owing}
-use Rattle.rules.specs.Past.{Past, edge, number, command, is, latest}
+use Rattle.edges.specs.Says.{duesOf, next24, next25, next28, soonestOf, owing}
+use Rattle.rules.specs.Past.{Past, edge, number, cke, asleep, command, is, latest}
 use Rattle.rules.specs.Banks.{actOn}
-use Rattle.rules.specs.Deadlines.{asleep, awakeTo, owedTo}
+use Rattle.rules.specs.Deadlines.{awakeTo, owedTo}
+use Rattle.rules.specs.Down.{turned, down}
 use Rattle.rules.proofs.Generic.{decide}
+use Rattle.rules.proofs.Clean.{Clean}
+use Rattle.rules.proofs.Down.{down-is}
 use Rattle.rules.proofs.Debts as debts
 use Rattle.rules.proofs.Debts.{reaches, ahead, owed-step}
 use Rattle.rules.proofs.Dominate.{need4}
 use Rattle.rules.proofs.Summary as rules
-use Rattle.rules.proofs.Summary.{kept, rests, shared}
+use Rattle.rules.proofs.Summary.{mark-at, kept, rests, shared}
 use Rattle.rules.proofs.Status.{mark-num}
-use Rattle.rules.proofs.Gap.{Due, now24, now25, due24, due25, due-both}
-use Rattle.carries.proofs.Summary.{clocksLeft, debtOf, banksOf}
+use Rattle.rules.proofs.Gap.{Due, now24, now25, now28, nowAny, due24, due25, due28, due-both}
+use Rattle.carries.proofs.Summary.{clocksLeft, debtOf, banksOf, deviceOf}
 use Rattle.carries.proofs.Views.{kept-view}
 
 -- ── Rule 24 ─────────────────────────────────────────────────────────────────────────────────
@@ -65,8 +68,8 @@ module _ (C : Chip) (p : Past) where
   pub next24-is : (hi : ℕ) → next24 C (banksOf C p) (edge p) hi ≡ running.next24 C (rules.summary C p) hi
   unfolding next24 running.next24 rules.summary
   next24-is hi =
-      ap (λ ds. late24 (soonest ds (edge p) hi 8 .at) (getD (banksOf C p .actno) (soonest ds (edge p) hi 8 .bank) 0) (C .most)) dues-view
-      ∙ ap (λ n. late24 (soonest ds (edge p) hi 8 .at) n (C .most)) (act-number (soonest ds (edge p) hi 8 .bank) (bank-picked ds (edge p) hi 8 (omega arith)))
+      ap (λ ds. lateBy 24 (soonest ds (edge p) hi 8 .at) (getD (banksOf C p .actno) (soonest ds (edge p) hi 8 .bank) 0) (C .most)) dues-view
+      ∙ ap (λ n. lateBy 24 (soonest ds (edge p) hi 8 .at) n (C .most)) (act-number (soonest ds (edge p) hi 8 .bank) (bank-picked ds (edge p) hi 8 (omega arith)))
     where
       ds : List ℕ
       ds = table (λ b. due C (kept C p b))
@@ -88,14 +91,26 @@ module _ (C : Chip) (p : Past) where
       go true = refl
       go false = refl
 
+  -- ── Rule 28 ───────────────────────────────────────────────────────────────────────────────
+
+  abbrev pub in28 : (hi : ℕ) → Late
+  in28 hi = next28 C (cke p) (asleep p) (deviceOf C p) hi
+
+  pub next28-is : (hi : ℕ) → next28 C (cke p) (asleep p) (deviceOf C p) hi ≡ running.next28 C (rules.summary C p) hi
+  unfolding running.next28 rules.summary shared rests debts.debtOf deviceOf
+  next28-is hi = rw (mark-num (λ _. C .tcke) (turned p), mark-at (λ _. C .tcke) (turned p))
+
   module _ (pos : 0 < C .trefi) (small : owedTo (C .trefi) p ≤ 16) where
-    -- both, by number
-    pub due-next : (hi : ℕ)
-        → Due (λ t. orElse (now24 C p t) (now25 C p t)) (edge p) hi (sooner (next24 C (banksOf C p) (edge p) hi) (next25 (debtOf (C .trefi) p) ref hi))
-    due-next hi =
-        rw (next24-is hi, next25-is hi)
-        (due-both (now24 C p) (now25 C p) (edge p) hi (running.next24 C (rules.summary C p) hi) (running.next25 C (rules.summary C p) hi)
-        (due24 C p hi) (due25 C p pos small hi))
+    -- all three, by number
+    pub due-next : Clean C p → (down p ≡ true → edge p ≤ edge (turned p) + C .stay) → (hi : ℕ)
+        → Due (nowAny C p) (edge p) hi (soonestOf (next24 C (banksOf C p) (edge p) hi) (next25 (debtOf (C .trefi) p) ref hi) (in28 hi))
+    due-next h near hi =
+        rw (next24-is hi, next25-is hi, next28-is hi)
+        (due-both (now24 C p) (λ t. orElse (now25 C p t) (now28 C p t)) (edge p) hi (running.next24 C (rules.summary C p) hi)
+        (sooner (running.next25 C (rules.summary C p) hi) (running.next28 C (rules.summary C p) hi))
+        (due24 C p hi)
+        (due-both (now25 C p) (now28 C p) (edge p) hi (running.next25 C (rules.summary C p) hi) (running.next28 C (rules.summary C p) hi)
+        (due25 C p pos small hi) (due28 C p (down-is C p h) near hi)))
 
     -- at a record's edge, up to which no deadline passed: what is owed after the record
     abbrev T : ℕ

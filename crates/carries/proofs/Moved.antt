@@ -12,10 +12,10 @@ use Rattle.chip.specs.declared.Chip.{Chip}
 use Rattle.running.specs.Said.{noVerdict}
 use Rattle.edges.specs.Step.{movedOf}
 use Rattle.edges.specs.Ends.{freshBanks, freshWaits, freshActs, freshDevice, freshRank, startRank}
-use Rattle.rules.specs.Past.{Past, edge, number}
-use Rattle.rules.specs.Deadlines.{asleep, awakeTo, owedTo}
+use Rattle.rules.specs.Past.{Past, edge, number, asleep}
+use Rattle.rules.specs.Deadlines.{awakeTo, owedTo}
 use Rattle.rules.specs.Waiting.{asks, wait}
-use Rattle.rules.proofs.Clean.{Clean}
+use Rattle.rules.proofs.Clean.{Clean, clean-tail, not-bad}
 use Rattle.carries.proofs.Summary.{turnOf, ring, actsOf, clocksLeft, debtOf, banksOf, waitsOf, deviceOf, summary}
 use Rattle.carries.proofs.Views.{regs-view}
 use Rattle.carries.proofs.Moves.{banks-next, acts-next, device-next}
@@ -26,15 +26,15 @@ use Rattle.carries.proofs.Debts.{debt-next}
 pub moved-summary :
     (C : Chip) → 0 < C .trefi → (r : Record) (p : Past) → Clean C (r ∷ p) → owedTo (C .trefi) p ≤ 16 → owedTo (C .trefi) (r ∷ p) ≤ 16
     → movedOf C (summary C p) r ≡ summary C (r ∷ p)
-unfolding movedOf summary
+unfolding movedOf summary debtOf
 moved-summary C pos r p h small after = rw (regs-view C p) (λ i. record {
   edge = edge (r ∷ p);
   count = number (r ∷ p);
   first = noVerdict;
   level = r .cke;
-  debt = debt-next C pos r p small after i;
+  debt = debt-next C pos r p (not-bad C r p h) small after i;
   banks = banks-next r p C i;
-  waits = waits-next C r p i;
+  waits = waits-next C r p (clean-tail C r p h) i;
   acts = acts-next r p i;
   device = device-next r p C h i;
 })

@@ -4,30 +4,37 @@ use Prim.Native.Nat.{ℕ, zero, suc, _+_, _%_, _<_}
 use native.Mathlib.Omega.{arith}
 use mathlib.Core.Path.{_≡_, refl, sym, ap, _∙_, fun-ext}
 use mathlib.Core.Logic.{⊎-elim}
-use mathlib.Core.Bool.{Bool, true, false, cond, _&&_, _||_}
+use mathlib.Core.Bool.{Bool, true, false, cond, not, _&&_, _||_}
 use mathlib.Core.List.{[], _∷_}
-use lib.Dec.{eqb}
+use lib.Dec.{eqb, leb, ltb}
 use lib.ListN.{set}
+use Rattle.laws.specs.Any.{anyOf}
 use Rattle.laws.proofs.Both.{both}
 use Rattle.laws.proofs.Eight.{getD-table}
 use Rattle.records.specs.declared.Record.{Record}
 use Rattle.records.specs.declared.Command.{Command}
-use Rattle.records.specs.declared.Command.the-variants.{Mrs, Ref, Pre, Act, Wr, Rd, Zq, Sre, Srx}
-use Rattle.records.specs.Command.{a10, bankIn, rank}
+use Rattle.records.specs.declared.Command.the-variants.{Mrs, Ref, Pre, Act, Wr, Rd, Zq, Sre, Srx, Low, Bad, Pde, Pdx}
+use Rattle.records.specs.Command.{byPins, falling, rising, commandOf, isA, a10, bankIn, rank}
+use Rattle.codes.specs.Codes.{set as set1}
 use Rattle.registers.proofs.Facts.{allowed-below}
 use Rattle.chip.specs.declared.Chip.{Chip}
 use Rattle.running.specs.Next as running
-use Rattle.running.specs.Next.{shutsNow, startNow}
+use Rattle.running.specs.Next.{changing, shutsNow, startNow}
 use Rattle.edges.specs.Asks as asks
 use Rattle.edges.specs.Next as edges
 use Rattle.edges.specs.Next.{setIf, startOf}
-use Rattle.rules.specs.Past.{Past, edge, number, command, is, addressOf, latest, back, has}
+use Rattle.rules.specs.Past.{Past, edge, number, cke, changes, asleep, command, is, addressOf, latest, back, has}
 use Rattle.rules.specs.Registers.{mrsTo, dllReset, regs}
 use Rattle.rules.specs.Banks.{actOn, closes, start}
+use Rattle.rules.specs.Down.{turned, precharged, slowExit}
+use Rattle.rules.proofs.Sleeping.{pins-still, changes-are}
+use Rattle.rules.proofs.Down.{down-is, precharged-is, any-ext}
+use Rattle.rules.proofs.Summary.{kept}
+use Rattle.rules.proofs.Status.{mark-num, start-mark-num}
 use Rattle.rules.proofs.Generic.{decide}
-use Rattle.rules.proofs.Events.{push}
+use Rattle.rules.proofs.Events.{never, push}
 use Rattle.rules.proofs.Fits.{mrs-allowed}
-use Rattle.rules.proofs.Clean.{Clean, is-other, ClosedBy, by-pre, by-rd, by-wr, closing-by}
+use Rattle.rules.proofs.Clean.{Clean, clean-tail, not-bad, is-other, ClosedBy, by-pre, by-rd, by-wr, closing-by}
 use Rattle.rules.proofs.Starts.{start-pre}
 use Rattle.rules.proofs.Dominate.{need4, need10, need11, need13, need14, need18, need19, regs-same}
 use Rattle.rules.proofs.Moves.{closes-own, start-now}
@@ -125,39 +132,76 @@ module _ (r : Record) (p : Past) where
   mrs-small : (C : Chip) → Clean C (r ∷ p) → is Mrs (r ∷ p) ≡ true → bankIn r < 4
   mrs-small C h y = allowed-below (C .header) (bankIn r) (r .a) (mrs-allowed C r p h y)
 
-  -- one of six changes where its test holds
+  -- one of nine changes where its test holds
   stamped-is :
-      (a0 a1 a2 a3 a4 a5 v0 v1 v2 v3 v4 v5 : ℕ)
-      → edges.stamped c r (a0 ∷ a1 ∷ a2 ∷ a3 ∷ a4 ∷ a5 ∷ []) v0 v1 v2 v3 v4 v5
-      ≡ cond (is Ref (r ∷ p)) v0 a0 ∷ cond (is Mrs (r ∷ p)) v1 a1 ∷ cond (is Zq (r ∷ p)) v2 a2 ∷ cond (is Sre (r ∷ p)) v3 a3
-      ∷ cond (is Srx (r ∷ p)) v4 a4 ∷ cond (dllReset (r ∷ p)) v5 a5 ∷ []
-  stamped-is a0 a1 a2 a3 a4 a5 v0 v1 v2 v3 v4 v5 = six (is Ref (r ∷ p)) (is Mrs (r ∷ p)) (is Zq (r ∷ p)) (is Sre (r ∷ p)) (is Srx (r ∷ p)) (dllReset (r ∷ p))
+      (slow : Bool) (a0 a1 a2 a3 a4 a5 a6 a7 a8 v0 v1 v2 v3 v4 v5 v6 v7 v8 : ℕ)
+      → edges.turnedTo c slow (edges.stamped c r (a0 ∷ a1 ∷ a2 ∷ a3 ∷ a4 ∷ a5 ∷ a6 ∷ a7 ∷ a8 ∷ []) v0 v1 v2 v3 v4 v5) v6 v7 v8
+      ≡ cond (is Ref (r ∷ p)) v0 a0 ∷ cond (is Mrs (r ∷ p)) v1 a1 ∷ cond (is Zq (r ∷ p)) v2 a2 ∷ cond (is Sre (r ∷ p)) v3 a3 ∷ cond (is Srx (r ∷ p)) v4 a4 ∷ cond (dllReset (r ∷ p)) v5 a5 ∷ cond (changing c) v6 a6 ∷ cond (is Pdx (r ∷ p)) v7 a7 ∷ cond ((is Pdx (r ∷ p) && slow)) v8 a8 ∷ []
+  stamped-is slow a0 a1 a2 a3 a4 a5 a6 a7 a8 v0 v1 v2 v3 v4 v5 v6 v7 v8 =
+      nine (is Ref (r ∷ p)) (is Mrs (r ∷ p)) (is Zq (r ∷ p)) (is Sre (r ∷ p)) (is Srx (r ∷ p)) (dllReset (r ∷ p)) (changing c) (is Pdx (r ∷ p)) (is Pdx (r ∷ p) && slow)
     where
-      six : (x0 x1 x2 x3 x4 x5 : Bool)
-          → setIf x5 (setIf x4 (setIf x3 (setIf x2 (setIf x1 (setIf x0 (a0 ∷ a1 ∷ a2 ∷ a3 ∷ a4 ∷ a5 ∷ []) 0 v0) 1 v1) 2 v2) 3 v3) 4 v4) 5 v5
-          ≡ cond x0 v0 a0 ∷ cond x1 v1 a1 ∷ cond x2 v2 a2 ∷ cond x3 v3 a3 ∷ cond x4 v4 a4 ∷ cond x5 v5 a5 ∷ []
-      six x0 x1 x2 x3 x4 x5 =
-          ap (λ l. setIf x5 (setIf x4 (setIf x3 (setIf x2 (setIf x1 l 1 v1) 2 v2) 3 v3) 4 v4) 5 v5)
-          (push (λ y. y ∷ a1 ∷ a2 ∷ a3 ∷ a4 ∷ a5 ∷ []) x0 v0 a0)
-          ∙ ap (λ l. setIf x5 (setIf x4 (setIf x3 (setIf x2 l 2 v2) 3 v3) 4 v4) 5 v5)
-          (push (λ y. cond x0 v0 a0 ∷ y ∷ a2 ∷ a3 ∷ a4 ∷ a5 ∷ []) x1 v1 a1)
-          ∙ ap (λ l. setIf x5 (setIf x4 (setIf x3 l 3 v3) 4 v4) 5 v5)
-          (push (λ y. cond x0 v0 a0 ∷ cond x1 v1 a1 ∷ y ∷ a3 ∷ a4 ∷ a5 ∷ []) x2 v2 a2)
-          ∙ ap (λ l. setIf x5 (setIf x4 l 4 v4) 5 v5)
-          (push (λ y. cond x0 v0 a0 ∷ cond x1 v1 a1 ∷ cond x2 v2 a2 ∷ y ∷ a4 ∷ a5 ∷ []) x3 v3 a3)
-          ∙ ap (λ l. setIf x5 l 5 v5)
-          (push (λ y. cond x0 v0 a0 ∷ cond x1 v1 a1 ∷ cond x2 v2 a2 ∷ cond x3 v3 a3 ∷ y ∷ a5 ∷ []) x4 v4 a4)
-          ∙ push (λ y. cond x0 v0 a0 ∷ cond x1 v1 a1 ∷ cond x2 v2 a2 ∷ cond x3 v3 a3 ∷ cond x4 v4 a4 ∷ y ∷ []) x5 v5 a5
+      nine : (x0 x1 x2 x3 x4 x5 x6 x7 x8 : Bool)
+          → setIf x8 (setIf x7 (setIf x6 (setIf x5 (setIf x4 (setIf x3 (setIf x2 (setIf x1 (setIf x0 (a0 ∷ a1 ∷ a2 ∷ a3 ∷ a4 ∷ a5 ∷ a6 ∷ a7 ∷ a8 ∷ []) 0 v0) 1 v1) 2 v2) 3 v3) 4 v4) 5 v5) 6 v6) 7 v7) 8 v8
+          ≡ cond x0 v0 a0 ∷ cond x1 v1 a1 ∷ cond x2 v2 a2 ∷ cond x3 v3 a3 ∷ cond x4 v4 a4 ∷ cond x5 v5 a5 ∷ cond x6 v6 a6 ∷ cond x7 v7 a7 ∷ cond x8 v8 a8 ∷ []
+      nine x0 x1 x2 x3 x4 x5 x6 x7 x8 =
+          ap (λ l. setIf x8 (setIf x7 (setIf x6 (setIf x5 (setIf x4 (setIf x3 (setIf x2 (setIf x1 (l) 1 v1) 2 v2) 3 v3) 4 v4) 5 v5) 6 v6) 7 v7) 8 v8) (push (λ y. y ∷ a1 ∷ a2 ∷ a3 ∷ a4 ∷ a5 ∷ a6 ∷ a7 ∷ a8 ∷ []) x0 v0 a0)
+          ∙ ap (λ l. setIf x8 (setIf x7 (setIf x6 (setIf x5 (setIf x4 (setIf x3 (setIf x2 (l) 2 v2) 3 v3) 4 v4) 5 v5) 6 v6) 7 v7) 8 v8) (push (λ y. cond x0 v0 a0 ∷ y ∷ a2 ∷ a3 ∷ a4 ∷ a5 ∷ a6 ∷ a7 ∷ a8 ∷ []) x1 v1 a1)
+          ∙ ap (λ l. setIf x8 (setIf x7 (setIf x6 (setIf x5 (setIf x4 (setIf x3 (l) 3 v3) 4 v4) 5 v5) 6 v6) 7 v7) 8 v8) (push (λ y. cond x0 v0 a0 ∷ cond x1 v1 a1 ∷ y ∷ a3 ∷ a4 ∷ a5 ∷ a6 ∷ a7 ∷ a8 ∷ []) x2 v2 a2)
+          ∙ ap (λ l. setIf x8 (setIf x7 (setIf x6 (setIf x5 (setIf x4 (l) 4 v4) 5 v5) 6 v6) 7 v7) 8 v8) (push (λ y. cond x0 v0 a0 ∷ cond x1 v1 a1 ∷ cond x2 v2 a2 ∷ y ∷ a4 ∷ a5 ∷ a6 ∷ a7 ∷ a8 ∷ []) x3 v3 a3)
+          ∙ ap (λ l. setIf x8 (setIf x7 (setIf x6 (setIf x5 (l) 5 v5) 6 v6) 7 v7) 8 v8) (push (λ y. cond x0 v0 a0 ∷ cond x1 v1 a1 ∷ cond x2 v2 a2 ∷ cond x3 v3 a3 ∷ y ∷ a5 ∷ a6 ∷ a7 ∷ a8 ∷ []) x4 v4 a4)
+          ∙ ap (λ l. setIf x8 (setIf x7 (setIf x6 (l) 6 v6) 7 v7) 8 v8) (push (λ y. cond x0 v0 a0 ∷ cond x1 v1 a1 ∷ cond x2 v2 a2 ∷ cond x3 v3 a3 ∷ cond x4 v4 a4 ∷ y ∷ a6 ∷ a7 ∷ a8 ∷ []) x5 v5 a5)
+          ∙ ap (λ l. setIf x8 (setIf x7 (l) 7 v7) 8 v8) (push (λ y. cond x0 v0 a0 ∷ cond x1 v1 a1 ∷ cond x2 v2 a2 ∷ cond x3 v3 a3 ∷ cond x4 v4 a4 ∷ cond x5 v5 a5 ∷ y ∷ a7 ∷ a8 ∷ []) x6 v6 a6)
+          ∙ ap (λ l. setIf x8 (l) 8 v8) (push (λ y. cond x0 v0 a0 ∷ cond x1 v1 a1 ∷ cond x2 v2 a2 ∷ cond x3 v3 a3 ∷ cond x4 v4 a4 ∷ cond x5 v5 a5 ∷ cond x6 v6 a6 ∷ y ∷ a8 ∷ []) x7 v7 a7)
+          ∙ push (λ y. cond x0 v0 a0 ∷ cond x1 v1 a1 ∷ cond x2 v2 a2 ∷ cond x3 v3 a3 ∷ cond x4 v4 a4 ∷ cond x5 v5 a5 ∷ cond x6 v6 a6 ∷ cond x7 v7 a7 ∷ y ∷ []) x8 v8 a8
 
   stamped-next :
-      (f0 f1 f2 f3 f4 f5 : Past → ℕ)
-      → edges.stamped c r (eachRest f0 f1 f2 f3 f4 f5 p) (f0 (r ∷ p)) (f1 (r ∷ p)) (f2 (r ∷ p)) (f3 (r ∷ p)) (f4 (r ∷ p)) (f5 (r ∷ p))
-      ≡ eachRest f0 f1 f2 f3 f4 f5 (r ∷ p)
-  stamped-next f0 f1 f2 f3 f4 f5 =
-      stamped-is _ _ _ _ _ _ (f0 (r ∷ p)) (f1 (r ∷ p)) (f2 (r ∷ p)) (f3 (r ∷ p)) (f4 (r ∷ p)) (f5 (r ∷ p))
-      ∙ (λ i. push f0 (is Ref (r ∷ p)) (r ∷ p) (latest (is Ref) p) i ∷ push f1 (is Mrs (r ∷ p)) (r ∷ p) (latest (is Mrs) p) i
-      ∷ push f2 (is Zq (r ∷ p)) (r ∷ p) (latest (is Zq) p) i ∷ push f3 (is Sre (r ∷ p)) (r ∷ p) (latest (is Sre) p) i
-      ∷ push f4 (is Srx (r ∷ p)) (r ∷ p) (latest (is Srx) p) i ∷ push f5 (dllReset (r ∷ p)) (r ∷ p) (latest dllReset p) i ∷ [])
+      (C : Chip) (slow : Bool) → changing c ≡ changes (r ∷ p) → is Pdx (r ∷ p) && slow ≡ slowExit C (r ∷ p) → (f0 f1 f2 f3 f4 f5 f6 f7 f8 : Past → ℕ)
+      → edges.turnedTo c slow (edges.stamped c r (eachRest C f0 f1 f2 f3 f4 f5 f6 f7 f8 p) (f0 (r ∷ p)) (f1 (r ∷ p)) (f2 (r ∷ p)) (f3 (r ∷ p)) (f4 (r ∷ p)) (f5 (r ∷ p)))
+      (f6 (r ∷ p)) (f7 (r ∷ p)) (f8 (r ∷ p))
+      ≡ eachRest C f0 f1 f2 f3 f4 f5 f6 f7 f8 (r ∷ p)
+  stamped-next C slow turn exit f0 f1 f2 f3 f4 f5 f6 f7 f8 =
+      stamped-is slow _ _ _ _ _ _ _ _ _ (f0 (r ∷ p)) (f1 (r ∷ p)) (f2 (r ∷ p)) (f3 (r ∷ p)) (f4 (r ∷ p)) (f5 (r ∷ p)) (f6 (r ∷ p)) (f7 (r ∷ p)) (f8 (r ∷ p))
+      ∙ (λ i. push f0 (is Ref (r ∷ p)) (r ∷ p) (latest (is Ref) p) i ∷ push f1 (is Mrs (r ∷ p)) (r ∷ p) (latest (is Mrs) p) i ∷ push f2 (is Zq (r ∷ p)) (r ∷ p) (latest (is Zq) p) i ∷ push f3 (is Sre (r ∷ p)) (r ∷ p) (latest (is Sre) p) i ∷ push f4 (is Srx (r ∷ p)) (r ∷ p) (latest (is Srx) p) i ∷ push f5 (dllReset (r ∷ p)) (r ∷ p) (latest (dllReset) p) i ∷ (ap (λ x. cond x (f6 (r ∷ p)) (f6 (turned p))) turn ∙ push f6 (changes (r ∷ p)) (r ∷ p) (turned p)) i ∷ push f7 (is Pdx (r ∷ p)) (r ∷ p) (latest (is Pdx) p) i ∷ (ap (λ x. cond x (f8 (r ∷ p)) (f8 (latest (slowExit C) p))) exit ∙ push f8 (slowExit C (r ∷ p)) (r ∷ p) (latest (slowExit C) p)) i ∷ [])
+
+  -- an exit is of a part that is in power-down
+  pdx-low : is Pdx (r ∷ p) ≡ true → cke p || asleep p ≡ false
+  unfolding commandOf falling rising
+  pdx-low y =
+      go (cke p) (r .cke) (eqb (r .pins) 1) (leb 7 (r .pins)) (asleep p) (byPins (r .pins))
+      (pins-still (λ d. isA Pdx d ≡ false) refl refl refl refl refl refl refl refl refl (r .pins)) y
+    where
+      go : (b k x y s : Bool) (d : Command) → isA Pdx d ≡ false
+          → isA Pdx (cond b (cond k d (cond x Sre (cond y Pde Bad))) (cond k (cond y (cond s Srx Pdx) Bad) Low)) ≡ true → b || s ≡ false
+      go true true x y s d u h = never h u
+      go true false true y s d u h = never h refl
+      go true false false true s d u h = never h refl
+      go true false false false s d u h = never h refl
+      go false true x true true d u h = never h refl
+      go false true x true false d u h = refl
+      go false true x false s d u h = never h refl
+      go false false x y s d u h = never h refl
+
+  -- the banks tell at an exit whether one was open at the entry
+  opened-is : (C : Chip) (b : ℕ) → b < 8 → edges.opened (banksOf C p) b ≡ ltb (kept C p b .shut .num) (kept C p b .acted .num)
+  unfolding banksOf kept
+  opened-is C b l = λ i.
+      ltb ((getD-table (λ b. number (latest (closes b) p)) b 0 l ∙ sym (start-mark-num C (latest (closes b) p))) i)
+      ((getD-table (λ b. number (latest (actOn b) p)) b 0 l ∙ sym (mark-num (need4 C) (latest (actOn b) p))) i)
+
+  pub slow-is : (C : Chip) → Clean C p → is Pdx (r ∷ p) && edges.slowNow (banksOf C p) (deviceOf C p) ≡ slowExit C (r ∷ p)
+  unfolding edges.slowNow edges.noneOpen slowExit deviceOf
+  slow-is C h = go (is Pdx (r ∷ p)) refl
+    where
+      none : is Pdx (r ∷ p) ≡ true → not (anyOf (edges.opened (banksOf C p)) 8) ≡ precharged C (turned p)
+      none y =
+          ap not (any-ext (edges.opened (banksOf C p)) _ 8 (opened-is C))
+          ∙ sym (precharged-is C p h (down-is C p h ∙ ap not (pdx-low y)))
+
+      go : (x : Bool) → is Pdx (r ∷ p) ≡ x
+          → x && (has (mrsTo 0) p && (not (set1 (addressOf (latest (mrsTo 0) p)) 12) && not (anyOf (edges.opened (banksOf C p)) 8)))
+          ≡ x && (has (mrsTo 0) p && (not (set1 (addressOf (latest (mrsTo 0) p)) 12) && precharged C (turned p)))
+      go true y = λ i. has (mrsTo 0) p && (not (set1 (addressOf (latest (mrsTo 0) p)) 12) && none y i)
+      go false n = refl
 
   -- a store at the register's place
   four-set : {A : Type 0} (b : ℕ) (f : ℕ → A) (v : A) → b < 4 → set (eachRegister f) (b % 4) v ≡ eachRegister (λ n. cond (eqb b n) v (f n))
@@ -181,17 +225,27 @@ module _ (r : Record) (p : Past) where
       old : is Mrs (r ∷ p) ≡ false → (n : ℕ) → f n ≡ g n
       old z n = ap (λ x. cond (x && eqb (bankIn r) n) v (f n)) (sym z) ∙ same n
 
-  pub device-next : (C : Chip) → Clean C (r ∷ p) → edges.deviceNext C c r e n (deviceOf C p) ≡ deviceOf C (r ∷ p)
+  pub device-next : (C : Chip) → Clean C (r ∷ p) → edges.deviceNext C c r e n (edges.slowNow (banksOf C p) (deviceOf C p)) (deviceOf C p) ≡ deviceOf C (r ∷ p)
   unfolding edges.deviceNext deviceOf
   device-next C h = λ i. record {
-    at = stamped-next edge edge edge edge edge edge i;
-    no = stamped-next number number number number number number i;
-    need = stamped-next (of (λ _. C .trfc)) (of (λ _. 4)) (of (need18 C)) (of (λ _. C .tcke + 1)) (of (λ _. C .txs)) (of (λ _. 512)) i;
+    at = stamped-next C slow turn exit edge edge edge edge edge edge edge edge edge i;
+    no = stamped-next C slow turn exit number number number number number number number number number i;
+    need = stamped-next C slow turn exit (of (λ _. C .trfc)) (of (λ _. 4)) (of (need18 C)) (of (λ _. C .tcke + 1)) (of (λ _. C .txs)) (of (λ _. 512))
+        (of (λ _. C .tcke)) (of (λ _. C .txp)) (of (λ _. C .txpdll)) i;
     codes = registers-next C h (λ m. addressOf (latest (mrsTo m) p)) (λ m. addressOf (latest (mrsTo m) (r ∷ p))) (r .a)
         (λ m. push addressOf (mrsTo m (r ∷ p)) (r ∷ p) (latest (mrsTo m) p)) i;
     written = registers-next C h (λ m. has (mrsTo m) p) (λ m. has (mrsTo m) (r ∷ p)) true (λ m. or-is (mrsTo m (r ∷ p)) (has (mrsTo m) p)) i;
   }
     where
+      slow : Bool
+      slow = edges.slowNow (banksOf C p) (deviceOf C p)
+
+      turn : changing (command (r ∷ p)) ≡ changes (r ∷ p)
+      turn = sym (changes-are r p (not-bad C r p h))
+
+      exit : is Pdx (r ∷ p) && edges.slowNow (banksOf C p) (deviceOf C p) ≡ slowExit C (r ∷ p)
+      exit = slow-is C (clean-tail C r p h)
+
       or-is : (x y : Bool) → cond x true y ≡ x || y
       or-is true y = refl
       or-is false y = refl

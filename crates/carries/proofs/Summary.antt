@@ -4,7 +4,7 @@ use Prim.Native.Nat.{ℕ, _+_, _-_, _*_, _%_}
 use mathlib.Core.Bool.{Bool, cond}
 use mathlib.Core.List.{List, [], _∷_, _++_}
 use Rattle.laws.specs.Eight.{table}
-use Rattle.records.specs.declared.Command.the-variants.{Mrs, Ref, Pre, Act, Wr, Rd, Zq, Sre, Srx}
+use Rattle.records.specs.declared.Command.the-variants.{Mrs, Ref, Pre, Act, Wr, Rd, Zq, Sre, Srx, Pdx}
 use Rattle.chip.specs.declared.Chip.{Chip}
 use Rattle.running.specs.Said.{noVerdict}
 use Rattle.edges.specs.declared.Banks.{Banks}
@@ -13,10 +13,11 @@ use Rattle.edges.specs.declared.Acts.{Acts}
 use Rattle.edges.specs.declared.Device.{Device}
 use Rattle.edges.specs.declared.Debt.{Debt}
 use Rattle.edges.specs.declared.Rank.{Rank}
-use Rattle.rules.specs.Past.{Past, edge, number, cke, is, addressOf, latest, back, has}
+use Rattle.rules.specs.Past.{Past, edge, number, cke, asleep, is, addressOf, latest, back, has}
 use Rattle.rules.specs.Registers.{mrsTo, dllReset}
 use Rattle.rules.specs.Banks.{actOn, closes, start}
-use Rattle.rules.specs.Deadlines.{asleep, awakeTo, owedTo}
+use Rattle.rules.specs.Down.{turned, slowExit}
+use Rattle.rules.specs.Deadlines.{awakeTo, owedTo}
 use Rattle.rules.specs.Waiting.{wait}
 use Rattle.rules.proofs.Dominate.{need4, need10, need11, need13, need14, need18, need19}
 use Rattle.rules.proofs.Summary.{rdOn, wrOn}
@@ -50,11 +51,11 @@ actsOf p = record { at = ring (turnOf p) (λ n. edge (back (is Act) n p)); no = 
 
 -- ── The device ──────────────────────────────────────────────────────────────────────────────
 
--- something of the latest REF, MRS, ZQ, SRE, SRX and DLL reset
-abbrev pub eachRest : {A : Type 0} (ref mrs zq sre srx dll : Past → A) → Past → List A
-eachRest ref mrs zq sre srx dll p =
+-- something of the latest REF, MRS, ZQ, SRE, SRX, DLL reset, change of CKE, power-down exit and slow one
+abbrev pub eachRest : {A : Type 0} → Chip → (ref mrs zq sre srx dll cke pdx slow : Past → A) → Past → List A
+eachRest C ref mrs zq sre srx dll cke pdx slow p =
     ref (latest (is Ref) p) ∷ mrs (latest (is Mrs) p) ∷ zq (latest (is Zq) p) ∷ sre (latest (is Sre) p) ∷ srx (latest (is Srx) p)
-    ∷ dll (latest dllReset p) ∷ []
+    ∷ dll (latest dllReset p) ∷ cke (turned p) ∷ pdx (latest (is Pdx) p) ∷ slow (latest (slowExit C) p) ∷ []
 
 -- of each register
 abbrev pub eachRegister : {A : Type 0} (f : ℕ → A) → List A
@@ -100,9 +101,11 @@ module _ (C : Chip) where
   unfoldable pub deviceOf : Past → Device
   deviceOf p =
       record {
-        at = eachRest edge edge edge edge edge edge p;
-        no = eachRest number number number number number number p;
-        need = eachRest (of (λ _. C .trfc)) (of (λ _. 4)) (of (need18 C)) (of (λ _. C .tcke + 1)) (of (λ _. C .txs)) (of (λ _. 512)) p;
+        at = eachRest C edge edge edge edge edge edge edge edge edge p;
+        no = eachRest C number number number number number number number number number p;
+        need =
+            eachRest C (of (λ _. C .trfc)) (of (λ _. 4)) (of (need18 C)) (of (λ _. C .tcke + 1)) (of (λ _. C .txs)) (of (λ _. 512))
+            (of (λ _. C .tcke)) (of (λ _. C .txp)) (of (λ _. C .txpdll)) p;
         codes = eachRegister (λ n. addressOf (latest (mrsTo n) p));
         written = eachRegister (λ n. has (mrsTo n) p);
       }

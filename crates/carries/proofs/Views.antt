@@ -11,7 +11,7 @@ use lib.ListN.{getD, set}
 use borrow.Author.Tests.{ltb-true, ne-eqb}
 use Rattle.laws.specs.Eight.{table}
 use Rattle.laws.proofs.Eight.{getD-table, getD-first, getD-second, table-ext}
-use Rattle.records.specs.declared.Command.the-variants.{Mrs, Ref, Act, Zq, Sre, Srx}
+use Rattle.records.specs.declared.Command.the-variants.{Mrs, Ref, Act, Zq, Sre, Srx, Pdx}
 use Rattle.chip.specs.declared.Chip.{Chip}
 use Rattle.running.specs.Marks.{needing}
 use Rattle.running.specs.Next.{mark as marked}
@@ -20,6 +20,7 @@ use Rattle.edges.specs.Views as edges
 use Rattle.rules.specs.Past.{Past, edge, number, is, addressOf, latest, back, has}
 use Rattle.rules.specs.Registers.{dllReset, regs}
 use Rattle.rules.specs.Banks.{actOn, closes, start}
+use Rattle.rules.specs.Down.{turned, slowExit}
 use Rattle.rules.proofs.Generic.{decide}
 use Rattle.rules.proofs.Clean.{is-other}
 use Rattle.rules.proofs.Dominate.{need4, need10, need11, need18}
@@ -189,6 +190,9 @@ module _ (C : Chip) (p : Past) where
     reset = reset-view i;
     woke = mark-parts (λ _. C .txs) (latest (is Srx) p) i;
     slept = mark-parts (λ _. C .tcke + 1) (latest (is Sre) p) i;
+    turned = mark-parts (λ _. C .tcke) (turned p) i;
+    left = mark-parts (λ _. C .txp) (latest (is Pdx) p) i;
+    slow = mark-parts (λ _. C .txpdll) (latest (slowExit C) p) i;
   }
 
   pub mrs-view : edges.deviceMark (deviceOf C p) edges.MRS ≡ mark (λ _. 4) (latest (is Mrs) p)

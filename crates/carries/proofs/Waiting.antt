@@ -11,7 +11,7 @@ use borrow.Author.Tests.{leb-true, leb-false}
 use Rattle.laws.proofs.Eight.{getD-table, getD-first, getD-second}
 use Rattle.answers.specs.declared.Verdict.{Verdict}
 use Rattle.records.specs.declared.Command.{Command}
-use Rattle.records.specs.declared.Command.the-variants.{Mrs, Ref, Pre, Act, Wr, Rd, Zq, Nop, Des, Sre, Srx, Low, Bad}
+use Rattle.records.specs.declared.Command.the-variants.{Mrs, Ref, Pre, Act, Wr, Rd, Zq, Nop, Des, Sre, Srx, Low, Bad, Pde, Pdx}
 use Rattle.chip.specs.declared.Chip.{Chip}
 use Rattle.rules.specs.Past.{Past, edge, upTo}
 use Rattle.rules.specs.Verdict.{Outcome, clean, stop, verdictTo, rest, Apart}
@@ -68,6 +68,8 @@ module _ (C : Chip) where
   time-is q Srx b l = refl
   time-is q Low b l = refl
   time-is q Bad b l = refl
+  time-is q Pde b l = refl
+  time-is q Pdx b l = refl
 
   module _ (S : Sound C) where
     frozen-waited : (p q : Past) (v : Verdict) → Clean C q → Waited C (frozen C p q v) q

@@ -21,17 +21,19 @@ use Rattle.chip.specs.Chip.{chipOf}
 use Rattle.chip.specs.Latencies.{hOf, bOf}
 use Rattle.answers.specs.declared.Verdict.{Verdict}
 use Rattle.answers.specs.Answer.{orElse, lowest}
+use Rattle.laws.specs.Any.{anyOf}
 use Rattle.laws.specs.Eight.{table}
 use Rattle.running.specs.Breaks.{statusOf, rule2, rule3, waits, spacings}
 use Rattle.running.specs.Marks.{needing, spaced}
+use Rattle.running.specs.Down.{laterOf, latestOf, rule26, exitRules}
 use Rattle.running.specs.Late.{better, soonest, sooner}
 use Rattle.running.specs.Next.{startNow, due}
 use Rattle.running.specs.Ends.{noEnd}
 use Rattle.running.specs.Ranges.{lastEdge}
 use Rattle.edges.specs.Views.{keptOf, latestFrom, lastStart, readOf, wroteOf, shutOf, restsOf, sharedOf}
 use Rattle.edges.specs.Asks.{asksAct, asksRd, asksWr, asksPre, asksRef, asksMrs, asksSre, waitsNext, greatest}
-use Rattle.edges.specs.Next.{banksNext, actsNext, deviceNext, debtNext}
-use Rattle.edges.specs.Says.{duesOf, next24, spacedIn, brokenIn, saysBy, saysOf}
+use Rattle.edges.specs.Next.{banksNext, actsNext, noneOpen, slowNow, deviceNext, debtNext}
+use Rattle.edges.specs.Says.{duesOf, next24, spacedIn, brokenIn, changedIn, leftIn, saysBy, saysOf}
 use Rattle.edges.specs.Step.{movedOf, stoppedOf, stepOf, soFar}
 use Rattle.edges.specs.Ranges.{edgesOk, rankInRange}
 use Rattle.edges.specs.Ends.{freshBanks, freshWaits, freshActs, freshDevice, freshRank, nextLate, verdictOf, endOf}
@@ -70,7 +72,7 @@ far bytes taken end late within v answer = judged-running (recorded []) headerP1
 pub far-hold :
     Holds (judged (recorded []) 46799 (clean 0 46799)) × (Holds (judged (recorded []) 46800 (broken 25 0 0 46800 8 9))
     × (Holds (judged (recorded bytesP12) 46691 (clean 5 46691)) × (Holds (judged (recorded bytesP12) 46692 (broken 24 0 5 46692 46666 46667)) × Unit {0})))
-unfolding wholeRefusal recordsRefusal headerWord fieldsRefusal headerRefusal up down binOf word48 clOfCode wrOfCode al spanOf clFits cwlFor table0 table1 table2 table3 fieldsIn firstBad badBit allowed fieldsOf byPins falling rising commandOf chipOf hOf bOf orElse lowest table statusOf rule2 rule3 waits spacings needing spaced better soonest sooner startNow due noEnd keptOf latestFrom lastStart readOf wroteOf shutOf restsOf sharedOf asksAct asksRd asksWr asksPre asksRef asksMrs asksSre waitsNext greatest banksNext actsNext deviceNext debtNext duesOf next24 spacedIn brokenIn saysBy saysOf movedOf stoppedOf stepOf soFar edgesOk rankInRange freshBanks freshWaits freshActs freshDevice freshRank nextLate verdictOf endOf inRange sectionOf closeOf
+unfolding wholeRefusal recordsRefusal headerWord fieldsRefusal headerRefusal up down binOf word48 clOfCode wrOfCode al spanOf clFits cwlFor table0 table1 table2 table3 fieldsIn firstBad badBit allowed fieldsOf byPins falling rising commandOf chipOf hOf bOf orElse lowest table statusOf rule2 rule3 waits spacings needing spaced better soonest sooner startNow due noEnd keptOf latestFrom lastStart readOf wroteOf shutOf restsOf sharedOf asksAct asksRd asksWr asksPre asksRef asksMrs asksSre waitsNext greatest banksNext actsNext anyOf noneOpen slowNow deviceNext debtNext duesOf next24 spacedIn brokenIn laterOf latestOf rule26 exitRules changedIn leftIn saysBy saysOf movedOf stoppedOf stepOf soFar edgesOk rankInRange freshBanks freshWaits freshActs freshDevice freshRank nextLate verdictOf endOf inRange sectionOf closeOf
 far-hold = (
   judged-whole [] 46799 _ refl (far [] refl 46799 refl refl _ refl),
   (

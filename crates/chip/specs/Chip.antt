@@ -1,7 +1,7 @@
 -- A header's clock counts as plain numbers.
 -- Assumes nothing.
 use Rattle.header.specs.declared.Header.{Header}
-use Rattle.header.specs.Counts.{tRCD, tRP, tRC, tRAS, tRRD, tFAW, tCKE, tRTP, tWTR, tWR, tMOD, tRFC, tXS, zqLong, zqShort, mostRAS, tREFI}
+use Rattle.header.specs.Counts.{tRCD, tRP, tRC, tRAS, tRRD, tFAW, tCKE, tRTP, tWTR, tWR, tMOD, tRFC, tXS, zqLong, zqShort, mostRAS, tREFI, tXP, tXPDLL, mostDown}
 use Rattle.chip.specs.declared.Chip.{Chip}
 
 unfoldable pub chipOf : Header → Chip
@@ -25,4 +25,7 @@ chipOf h =
       zqshort = zqShort h .clocks;
       most = mostRAS h .clocks;
       trefi = tREFI h .clocks;
+      txp = tXP h .clocks;
+      txpdll = tXPDLL h .clocks;
+      stay = mostDown h .clocks;
     }

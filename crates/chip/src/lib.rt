@@ -30,6 +30,9 @@ pub struct Chip {
     pub zqshort: u32,
     pub most: u32,
     pub trefi: u32,
+    pub txp: u32,
+    pub txpdll: u32,
+    pub stay: u32,
 }
 
 // The codes last written to the mode registers; 0 where there is none.

@@ -1,4 +1,4 @@
-// Here `Clocks` become plain numbers, of 32 bits: no count is above 70,000,000.
+// Here `Clocks` become plain numbers, of 32 bits: no count is above 80,000,000.
 use crate::Chip;
 use header::Header;
 use units::Clocks;
@@ -28,11 +28,14 @@ pub fn chip_of(h: Header) -> Chip
         zqshort: plain(h.zqshort()),
         most: plain(h.mostras()),
         trefi: plain(h.trefi()),
+        txp: plain(h.txp()),
+        txpdll: plain(h.txpdll()),
+        stay: plain(h.mostdown()),
     }
 }
 
 fn plain(c: Clocks) -> u32
-    requires { ⌜ c .clocks ≤ 70000000 ⌝ }
+    requires { ⌜ c .clocks ≤ 80000000 ⌝ }
     ensures { λ r. ⌜ r ≡ c .clocks ⌝ }
 {
     c.clocks as u32

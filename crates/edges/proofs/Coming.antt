@@ -2,36 +2,35 @@
 -- Assumes nothing.
 use Prim.Native.Nat.{ℕ, zero, suc, _+_, _-_, _≤_, _<_, max}
 use native.Mathlib.Omega.{arith}
-use mathlib.Core.Bool.{true, cond}
+use mathlib.Core.Bool.{Bool, true, cond}
 use mathlib.Core.List.{List}
 use mathlib.Core.Logic.{_⊎_, inl, inr, ⊎-elim}
 use mathlib.Core.Path.{_≡_, refl, _∙_}
 use lib.ListN.{getD}
-use borrow.Author.Tests.{eq-eqb}
+use borrow.Author.Tests.{eq-eqb, le-leb}
 use Rattle.laws.specs.Eight.{table}
 use Rattle.laws.proofs.Eight.{getD-table}
-use Rattle.answers.specs.declared.Break.the-variants.{Fine}
 use Rattle.records.specs.declared.Record.{Record}
 use Rattle.records.specs.declared.Command.{Command}
-use Rattle.records.specs.declared.Command.the-variants.{Mrs, Ref, Pre, Act, Wr, Rd, Zq, Nop, Des, Sre, Srx, Low, Bad}
+use Rattle.records.specs.declared.Command.the-variants.{Mrs, Ref, Pre, Act, Wr, Rd, Zq, Nop, Des, Sre, Srx, Low, Bad, Pde, Pdx}
 use Rattle.records.specs.Command.{isA, a10}
 use Rattle.chip.specs.declared.Chip.{Chip}
 use Rattle.edges.specs.declared.Waits.{Waits}
 use Rattle.edges.specs.declared.Floor.{Floor}
 use Rattle.edges.specs.declared.Rank.{Rank}
 use Rattle.edges.specs.Asks.{greatest, waitFor}
-use Rattle.edges.specs.Next.{deviceNext, debtNext}
-use Rattle.edges.specs.Says.{brokenIn, commandIn}
+use Rattle.edges.specs.Next.{slowNow, deviceNext, debtNext}
+use Rattle.edges.specs.Says.{entryOver, commandIn}
 use Rattle.edges.specs.Step.{movedOf, stepOf}
 use Rattle.edges.specs.Floors.{under, settled}
 use Rattle.edges.specs.Ways.{floorNext, holdsNext}
-use Rattle.edges.specs.Seldom.{Rested, MayCome}
+use Rattle.edges.specs.Seldom.{Rested, Entered, MayCome}
 use Rattle.edges.specs.Running.{Track, Rest, heldBy, rankOf}
 use Rattle.edges.specs.Lane.{restBy, Clear}
-use Rattle.edges.proofs.Easy.{NoneDue, NotOwed, says-none}
-use Rattle.edges.proofs.Fine.{Idling, all-fine, ref-fine, zq-fine, mrs-fine, sre-fine, srx-fine, nop-fine, des-fine, low-fine}
+use Rattle.edges.proofs.Easy.{NoneDue, NotOwed, NotLong, AllFine, says-none}
+use Rattle.edges.proofs.Fine.{Idling, all-fine, ref-fine, zq-fine, mrs-fine, sre-fine, srx-fine, nop-fine, des-fine, low-fine, pde-fine, pdx-fine}
 use Rattle.edges.proofs.Ways.{Sized}
-use Rattle.edges.proofs.Changing.{is-ref, is-zq, is-mrs, is-sre, is-srx, is-nop, is-des, is-low, whole-moves, all-moves}
+use Rattle.edges.proofs.Changing.{is-ref, is-zq, is-mrs, is-sre, is-srx, is-nop, is-des, is-low, is-pde, is-pdx, whole-moves, all-moves}
 
 most-below : (xs : List ℕ) (n e : ℕ) → ((b : ℕ) → b < n → getD xs b 0 ≤ e) → greatest xs n ≤ e
 unfolding greatest
@@ -60,6 +59,16 @@ module _ (f : Floor) (W : Waits) (r : Record) (e : ℕ) where
   sre-over : getD (W .holds) 3 0 ≤ e → f .idle ≤ e → f .out ≤ e → waitFor (under f W) Sre r ≤ e
   unfolding under
   sre-over h l m = omega arith
+
+-- and of an entry
+entry-over : (f : Floor) (W : Waits) (e : ℕ) → Entered e f (W .pre) (W .holds) → entryOver (under f W) e ≡ true
+unfolding under
+entry-over f W e h =
+    rw (
+      le-leb (greatest (table (λ b. max (getD (W .pre) b 0) (f .pre))) 8) e (most-below (table (λ b. max (getD (W .pre) b 0) (f .pre))) 8 e
+          (λ b k. rw (getD-table (λ b. max (getD (W .pre) b 0) (f .pre)) b 0 k) (omega (arith, h .ready b k, h .floor)))),
+      le-leb 3 (e - max (getD (W .holds) 3 0) (max (f .idle) (f .out))) (omega (arith, h .own, h .starts, h .reads)),
+    )
 
 -- the track after a seldom command
 abbrev pub trackAfter : Track → (e n : ℕ) (shutat shutno : List ℕ) → Floor → Track
@@ -101,13 +110,16 @@ module _ (C : Chip) (d : Rest) (t : Track) (r : Record) where
   abbrev f : Floor
   f = t .floor
 
+  abbrev slow : Bool
+  slow = slowNow (t .banks) (d .device)
+
   -- what it leaves behind; a PRE of all banks shuts them
   abbrev pub nextRest : Command → Rest
-  nextRest c = restBy (r .cke) (debtNext C c e (d .debt)) (holdsNext C c r e (d .holds)) (deviceNext C c r e n (d .device)) (d .first)
+  nextRest c = restBy (r .cke) (debtNext C c e (d .debt)) (holdsNext C c r e (d .holds)) (deviceNext C c r e n slow (d .device)) (d .first)
 
   abbrev pub nextTrack : Command → Track
   nextTrack c =
-      trackAfter t e n (cond (isA Pre c) (table (λ _. e)) (t .banks .shutat)) (cond (isA Pre c) (table (λ _. n)) (t .banks .shutno)) (floorNext C c r e f)
+      trackAfter t e n (cond (isA Pre c) (table (λ _. e)) (t .banks .shutat)) (cond (isA Pre c) (table (λ _. n)) (t .banks .shutno)) (floorNext C c r slow e f)
 
   module _ (clear : ℕ) (free : Clear C clear d t) (clean : d .first .outcome ≡ 0) (before : e < clear) (size : Sized (s .waits)) where
     none-due : NoneDue C (t .banks) (t .edge) e
@@ -116,23 +128,27 @@ module _ (C : Chip) (d : Rest) (t : Track) (r : Record) where
     not-owed : NotOwed (d .debt) e
     not-owed = ⊎-elim (λ x. inl x) (λ x. inr (omega (arith, x, before))) (free .owed)
 
-    step-moves : brokenIn C (rankOf d t) r e ≡ Fine → stepOf C (rankOf d t) r ≡ movedOf C (rankOf d t) r
+    not-long : NotLong C (rankOf d t) e
+    unfolding settled
+    not-long = ⊎-elim (λ x. inl x) (λ x. inr (⊎-elim (λ y. inl y) (λ y. inr (omega (arith, y, before))) x)) (free .stays)
+
+    step-moves : AllFine C (rankOf d t) r e → stepOf C (rankOf d t) r ≡ movedOf C (rankOf d t) r
     unfolding stepOf settled
-    step-moves fine = rw (eq-eqb (d .first .outcome) 0 clean, says-none C (rankOf d t) r none-due not-owed fine)
+    step-moves fine = rw (eq-eqb (d .first .outcome) 0 clean, says-none C (rankOf d t) r none-due not-owed not-long fine)
 
     idling : {a : ℕ} {b : ℕ} → Rested (t .banks .actno) (t .banks .shutat) (t .banks .shutno) a b e → (x : ℕ) → x < 8 → Idling C (t .banks) x e
     idling q x l = (q .all .closed x l, q .all .over x l)
 
     fine-as : (c : Command) → commandIn s r ≡ c
         → MayCome (C .header) c r e f (t .banks .actno) (t .banks .shutat) (t .banks .shutno) (t .pre) (d .holds) (d .device .at) (d .device .no) (d .device .need)
-        → brokenIn C (rankOf d t) r e ≡ Fine
+        → AllFine C (rankOf d t) r e
     unfolding settled
     fine-as Pre h m = all-fine C (rankOf d t) r e h (m .0) (m .1 .calm) (pre-over f (s .waits) r e (m .0) (m .1 .ready) (m .2))
     fine-as Ref h m = ref-fine C (rankOf d t) r e h (idling m) (ref-over f (s .waits) r e (m .own) (m .starts))
     fine-as Zq h m = zq-fine C (rankOf d t) r e h (idling m) (zq-over f (s .waits) r e (m .own) (m .starts))
     fine-as Mrs h m = mrs-fine C (rankOf d t) r e h (idling (m .0)) (m .2) (mrs-over f (s .waits) r e (m .0 .own) (m .0 .starts) (m .1))
-    fine-as Sre h m = sre-fine C (rankOf d t) r e h (idling (m .0)) (m .2) (sre-over f (s .waits) r e (m .0 .own) (m .0 .starts) (m .1))
-    fine-as Srx h m = srx-fine C (rankOf d t) r e h m
+    fine-as Sre h m = sre-fine C (rankOf d t) r e h (idling (m .0)) (m .2) (sre-over f (s .waits) r e (m .0 .own) (m .0 .starts) (m .1)) (m .3)
+    fine-as Srx h m = srx-fine C (rankOf d t) r e h (m .0) (m .1)
     fine-as Nop h m = nop-fine C (rankOf d t) r e h
     fine-as Des h m = des-fine C (rankOf d t) r e h
     fine-as Low h m = low-fine C (rankOf d t) r e h
@@ -140,10 +156,12 @@ module _ (C : Chip) (d : Rest) (t : Track) (r : Record) where
     fine-as Rd h m = absurd m
     fine-as Wr h m = absurd m
     fine-as Bad h m = absurd m
+    fine-as Pde h m = pde-fine C (rankOf d t) r e h (entry-over f (s .waits) e (m .0)) (m .1)
+    fine-as Pdx h m = pdx-fine C (rankOf d t) r e h m
 
     -- a PRE leaves the debt and the device alone
     pre-same :
-        settled (floorNext C Pre r e f)
+        settled (floorNext C Pre r slow e f)
         (record {
           edge = e;
           count = n;
@@ -175,3 +193,5 @@ module _ (C : Chip) (d : Rest) (t : Track) (r : Record) where
     seldom-step Rd h m = absurd m
     seldom-step Wr h m = absurd m
     seldom-step Bad h m = absurd m
+    seldom-step Pde h m = step-moves (fine-as Pde h m) ∙ whole-moves C s f r size Pde is-pde h
+    seldom-step Pdx h m = step-moves (fine-as Pdx h m) ∙ whole-moves C s f r size Pdx is-pdx h

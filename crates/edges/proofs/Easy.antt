@@ -2,10 +2,11 @@
 -- Assumes nothing.
 use Prim.Native.Nat.{ℕ, _+_, _≤_, _<_}
 use native.Mathlib.Omega.{arith}
-use mathlib.Core.Bool.{Bool, true, false, cond}
+use mathlib.Core.Bool.{Bool, true, false, cond, _||_}
 use mathlib.Core.Logic.{_⊎_, inl, inr, ⊎-elim}
 use mathlib.Core.Path.{_≡_, ap}
 use lib.ListN.{getD}
+use lib.Dec.{leb}
 use borrow.Author.Tests.{le-ltb, le-leb, lt-leb, ne-eqb}
 use Rattle.answers.specs.declared.Break.{Break}
 use Rattle.answers.specs.declared.Break.the-variants.{Fine}
@@ -19,8 +20,11 @@ use Rattle.running.specs.Said.{noVerdict}
 use Rattle.running.proofs.Soonest.{soonest-none}
 use Rattle.edges.specs.declared.Banks.{Banks}
 use Rattle.edges.specs.declared.Debt.{Debt}
+use Rattle.edges.specs.declared.Device.{Device}
 use Rattle.edges.specs.declared.Rank.{Rank}
-use Rattle.edges.specs.Says.{duesOf, next24, next25, brokenIn, owing, saysBy, saysOf, commandIn, refreshed}
+use Rattle.edges.specs.Views.{CKE}
+use Rattle.edges.specs.Clearing.{Staying}
+use Rattle.edges.specs.Says.{duesOf, next24, next25, next28, brokenIn, changedIn, leftIn, owing, saysBy, saysOf, commandIn, refreshed}
 
 -- no bank comes due after the edge lo and up to e
 abbrev pub NoneDue : Chip → Banks → (lo e : ℕ) → Type 0
@@ -43,21 +47,54 @@ not-25 D n e (inr x) = go (D .sleeps)
     go true = omega arith
     go false = x
 
-none-said : (e n : ℕ) (x y : Late) (o : Break) → x .at ≡ e + 1 → e < y .at → o ≡ Fine → saysBy e n x y Fine o ≡ noVerdict
-unfolding saysBy sooner
-none-said e n x y o p q z =
-    rw (le-leb (x .at) (y .at) (omega arith), le-ltb (x .at) e (omega arith), ne-eqb (x .at) e (λ w. omega arith), z)
+not-28 : (C : Chip) (l z : Bool) (D : Device) (e : ℕ) → Staying l z (getD (D .at) CKE 0) (C .stay) (e + 1) → e < next28 C l z D (e + 1) .at
+not-28 C l z D e (inl x) = rw x (omega arith)
+not-28 C l z D e (inr (inl x)) = rw x (go l)
+  where
+    go : (y : Bool) → e < cond (y || true) (e + 1) (getD (D .at) CKE 0 + C .stay + 1)
+    go true = omega arith
+    go false = omega arith
+not-28 C l z D e (inr (inr x)) = go (l || z)
+  where
+    go : (y : Bool) → e < cond y (e + 1) (getD (D .at) CKE 0 + C .stay + 1)
+    go true = omega arith
+    go false = omega arith
+
+sooner-after : (e : ℕ) (x y : Late) → e < x .at → e < y .at → e < sooner x y .at
+unfolding sooner
+sooner-after e x y l m = go (leb (x .at) (y .at))
+  where
+    go : (b : Bool) → e < cond b x y .at
+    go true = l
+    go false = m
+
+none-said : (e n : ℕ) (x y z : Late) (o : Break) → x .at ≡ e + 1 → e < y .at → e < z .at → o ≡ Fine → saysBy e n x y z Fine o Fine Fine ≡ noVerdict
+unfolding saysBy
+none-said e n x y z o p q k h =
+    let l = sooner-after e x (sooner y z) (omega arith) (sooner-after e y z q k) in
+    rw (le-ltb (sooner x (sooner y z) .at) e (omega arith), ne-eqb (x .at) e (λ w. omega arith), ne-eqb (z .at) e (λ w. omega arith), h)
 
 not-owing : (c : Command) (e : ℕ) (x : Late) → e < x .at → owing c e x ≡ Fine
 not-owing c e x l = rw (lt-leb (x .at) e l)
 
+-- a record that breaks none of the rules that a record breaks
+pub record AllFine (C : Chip) (s : Rank) (r : Record) (e : ℕ) : Type 0 where
+  pub broken : brokenIn C s r e ≡ Fine
+  pub changed : changedIn C s r e ≡ Fine
+  pub left : leftIn C s r e ≡ Fine
+
+-- a stay in power-down is not too long at e
+abbrev pub NotLong : Chip → Rank → (e : ℕ) → Type 0
+NotLong C s e = Staying (s .level) (s .debt .sleeps) (getD (s .device .at) CKE 0) (C .stay) (e + 1)
+
 pub says-none :
     (C : Chip) (s : Rank) (r : Record) → NoneDue C (s .banks) (s .edge) (s .edge + r .step) → NotOwed (s .debt) (s .edge + r .step)
-    → brokenIn C s r (s .edge + r .step) ≡ Fine → saysOf C s r ≡ noVerdict
+    → NotLong C s (s .edge + r .step) → AllFine C s r (s .edge + r .step) → saysOf C s r ≡ noVerdict
 unfolding saysOf
-says-none C s r u v w =
+says-none C s r u v k w =
     let e = s .edge + r .step in
     let q = not-25 (s .debt) (refreshed s) e v in
-    rw w (none-said e (s .count + 1) (next24 C (s .banks) (s .edge) (e + 1)) (next25 (s .debt) (refreshed s) (e + 1))
-    (owing (commandIn s r) e (next25 (s .debt) (refreshed s) (e + 1)))
-    (not-24 C (s .banks) (s .edge) e u) q (not-owing (commandIn s r) e (next25 (s .debt) (refreshed s) (e + 1)) q))
+    rw (w .broken, w .changed, w .left) (none-said e (s .count + 1) (next24 C (s .banks) (s .edge) (e + 1)) (next25 (s .debt) (refreshed s) (e + 1))
+    (next28 C (s .level) (s .debt .sleeps) (s .device) (e + 1)) (owing (commandIn s r) e (next25 (s .debt) (refreshed s) (e + 1)))
+    (not-24 C (s .banks) (s .edge) e u) q (not-28 C (s .level) (s .debt .sleeps) (s .device) e k)
+    (not-owing (commandIn s r) e (next25 (s .debt) (refreshed s) (e + 1)) q))

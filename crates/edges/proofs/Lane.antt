@@ -1,39 +1,46 @@
 -- The turns of the lane, for every rank of its arrays that is not broken.
 -- Assumes nothing.
-use Prim.Native.Nat.{ℕ, _+_, _-_, _*_, _≤_, _<_}
+use Prim.Native.Nat.{ℕ, _+_, _-_, _*_, _%_, _≤_, _<_}
 use native.Mathlib.Omega.{arith}
 use mathlib.Core.Bool.{Bool, true, false, cond, not, _&&_, _||_, true≢false}
 use mathlib.Core.List.{List}
 use mathlib.Core.Logic.{_⊎_, inl, inr, ⊎-elim}
 use mathlib.Core.Path.{_≡_, refl, sym, ap, _∙_, subst}
-use lib.Dec.{eqb, leb}
+use lib.Dec.{eqb, leb, ltb}
 use lib.ListN.{getD, length}
+use Rattle.laws.specs.Any.{anyOf}
+use Rattle.codes.specs.Codes.{set as set1}
 use borrow.Author.Tests.{eqb-false, leb-false, not-false}
 use Rattle.laws.specs.Eight.{table}
+use Rattle.header.specs.declared.Header.{Header}
 use Rattle.answers.specs.declared.Verdict.{Verdict}
 use Rattle.records.specs.declared.Record.{Record}
 use Rattle.records.specs.declared.Command.{Command}
-use Rattle.records.specs.declared.Command.the-variants.{Mrs, Ref, Pre, Sre, Srx}
+use Rattle.records.specs.declared.Command.the-variants.{Mrs, Ref, Pre, Act, Wr, Rd, Zq, Nop, Des, Sre, Srx, Low, Bad, Pde, Pdx}
 use Rattle.records.specs.Record.{recordAt}
-use Rattle.records.specs.Command.{rank, isA, commandOf}
+use Rattle.records.specs.Command.{rank, isA, bankIn, falling, commandOf}
 use Rattle.chip.specs.declared.Chip.{Chip}
 use Rattle.chip.specs.declared.Regs.{Regs}
 use Rattle.running.specs.declared.Asks.{Asks}
 use Rattle.running.specs.Easy.{Asked}
+use Rattle.running.specs.Next.{changing}
 use Rattle.running.specs.Said.{noVerdict}
 use Rattle.running.specs.Ranges.{lastEdge, farEdge}
 use Rattle.laws.proofs.Both.{both, neither}
+use Rattle.edges.specs.declared.Banks.{Banks}
 use Rattle.edges.specs.declared.Device.{Device}
 use Rattle.edges.specs.declared.Debt.{Debt}
 use Rattle.edges.specs.declared.Floor.{Floor}
-use Rattle.edges.specs.Views.{regsOf, writtenOf}
-use Rattle.edges.specs.Next.{counting, paid, debtNext, deviceNext}
+use Rattle.edges.specs.Views.{regsOf, writtenOf, CKE, PDX, SLOW}
+use Rattle.edges.specs.Asks.{need18}
+use Rattle.edges.specs.Next.{setIf, counting, paid, slowNow, stamped, debtNext, deviceNext, noneOpen}
 use Rattle.edges.specs.Step.{stepOf}
-use Rattle.edges.specs.Clearing.{Off, Clears, Owing}
+use Rattle.edges.specs.Clearing.{Off, Clears, Owing, Staying, Anew}
+use Rattle.edges.specs.Ways.{floorNext}
 use Rattle.edges.specs.Seldom.{MayCome}
 use Rattle.edges.specs.Ranges.{farthest}
 use Rattle.edges.specs.Running.{Track, Rest, rankOf, allWritten, Standing, Quickly}
-use Rattle.edges.specs.Lane.{restBy, Fit, Clear, Folding, Laning, Smoothly, Leaves}
+use Rattle.edges.specs.Lane.{restBy, Fit, Clear, Folding, Laning, Smoothly, Leaves, Passes}
 use Rattle.edges.proofs.Dues.{due-at, same-soon}
 use Rattle.edges.proofs.Folding.{Lengths}
 use Rattle.edges.proofs.Turns.{fold-start, quick-stands, quick-still, quick-done, fold-more}
@@ -45,8 +52,9 @@ by-the-codes {C = C} {w = w} h e = subst (λ (G : Regs). Asked C G w) e h
 -- by the arrays
 cleared : (C : Chip) (clear : ℕ) (d : Rest) (t : Track)
     → Clears (C .most) (t .banks .actat) (t .banks .actno) (t .banks .shutat) (t .banks .shutno) (t .edge) clear → clear ≤ t .edge + C .most + 1
-    → Owing (d .debt) clear → Clear C clear d t
-cleared C clear d t h near owed = record { due = λ b l. subst (Off (t .edge) clear) (sym (due-at C (t .banks) b l)) (h b l); near = near; owed = owed }
+    → Owing (d .debt) clear → Staying (d .level) (d .debt .sleeps) (getD (d .device .at) CKE 0) (C .stay) clear → Clear C clear d t
+cleared C clear d t h near owed stays =
+    record { due = λ b l. subst (Off (t .edge) clear) (sym (due-at C (t .banks) b l)) (h b l); near = near; owed = owed; stays = stays }
 
 -- a list of eight, all of it put anew or not
 eight : (yes : Bool) (xs ys : List ℕ) (v : ℕ) → ys ≡ cond yes (table (λ _. v)) xs → length xs ≡ 8 → length ys ≡ 8
@@ -55,9 +63,9 @@ eight true xs ys v e k = ap (λ (z : List ℕ). length z) e
 eight false xs ys v e k = ap (λ (z : List ℕ). length z) e ∙ k
 
 -- only an MRS writes a register
-same-regs : (C : Chip) (c : Command) (r : Record) (e n : ℕ) (D : Device) → isA Mrs c ≡ false → regsOf (deviceNext C c r e n D) ≡ regsOf D
+same-regs : (C : Chip) (c : Command) (r : Record) (e n : ℕ) (slow : Bool) (D : Device) → isA Mrs c ≡ false → regsOf (deviceNext C c r e n slow D) ≡ regsOf D
 unfolding deviceNext
-same-regs C c r e n D h = rw h
+same-regs C c r e n slow D h = rw h
 
 -- of the seldom commands only an SRX brings the debt's edge nearer
 kept-owed : (C : Chip) (c : Command) (e : ℕ) (x : Debt) (clear : ℕ) → isA Srx c ≡ false → Owing x clear → Owing (debtNext C c e x) clear
@@ -76,14 +84,100 @@ kept-owed C c e x clear h o = go (isA Ref c) (isA Sre c) (isA Srx c) h
     go false false false z = o
     go false false true z = absurd (true≢false z)
 
+-- of a command that is no exit it does not matter whether an exit would be slow
+slow-device : (C : Chip) (c : Command) (r : Record) (e n : ℕ) (x y : Bool) (D : Device) → (isA Pdx c ≡ true → x ≡ y) → deviceNext C c r e n x D ≡ deviceNext C c r e n y D
+unfolding deviceNext
+slow-device C c r e n x y D h = go (isA Pdx c) refl
+  where
+    with : (u v : Bool) → Device
+    with u v =
+        record {
+          at = setIf (u && v) (setIf u (setIf (changing c) (stamped c r (D .at) e e e e e e) CKE e) PDX e) SLOW e;
+          no = setIf (u && v) (setIf u (setIf (changing c) (stamped c r (D .no) n n n n n n) CKE n) PDX n) SLOW n;
+          need = setIf (u && v) (setIf u (setIf (changing c) (stamped c r (D .need) (C .trfc) 4 (need18 C r) (C .tcke + 1) (C .txs) 512) CKE (C .tcke)) PDX (C .txp)) SLOW (C .txpdll);
+          codes = setIf (isA Mrs c) (D .codes) (bankIn r % 4) (r .a);
+          written = setIf (isA Mrs c) (D .written) (bankIn r % 4) true;
+        }
+
+    go : (u : Bool) → isA Pdx c ≡ u → with u x ≡ with u y
+    go true z = ap (with true) (h z)
+    go false z = refl
+
+slow-floor : (C : Chip) (c : Command) (r : Record) (e : ℕ) (x y : Bool) (f : Floor) → (isA Pdx c ≡ true → x ≡ y) → floorNext C c r x e f ≡ floorNext C c r y e f
+slow-floor C Mrs r e x y f h = refl
+slow-floor C Ref r e x y f h = refl
+slow-floor C Pre r e x y f h = refl
+slow-floor C Act r e x y f h = refl
+slow-floor C Wr r e x y f h = refl
+slow-floor C Rd r e x y f h = refl
+slow-floor C Zq r e x y f h = refl
+slow-floor C Nop r e x y f h = refl
+slow-floor C Des r e x y f h = refl
+slow-floor C Sre r e x y f h = refl
+slow-floor C Srx r e x y f h = refl
+slow-floor C Low r e x y f h = refl
+slow-floor C Bad r e x y f h = refl
+slow-floor C Pde r e x y f h = refl
+slow-floor C Pdx r e x y f h = ap (λ (v : Bool). floorNext C Pdx r v e f) (h refl)
+
+slow-by : (B : Banks) (D : Device)
+    → slowNow B D ≡ getD (D .written) 0 false && (not (set1 (getD (D .codes) 0 0) 12) && not (anyOf (λ b. ltb (getD (B .shutno) b 0) (getD (B .actno) b 0)) 8))
+unfolding slowNow noneOpen
+slow-by B D = refl
+
+-- a command that may come is no bad one
+may-good : (h : Header) (c : Command) (r : Record) (e : ℕ) (f : Floor) (an sa sn p hs a m k : List ℕ) → MayCome h c r e f an sa sn p hs a m k → isA Bad c ≡ false
+may-good h Mrs r e f an sa sn p hs a m k w = refl
+may-good h Ref r e f an sa sn p hs a m k w = refl
+may-good h Pre r e f an sa sn p hs a m k w = refl
+may-good h Act r e f an sa sn p hs a m k w = refl
+may-good h Wr r e f an sa sn p hs a m k w = refl
+may-good h Rd r e f an sa sn p hs a m k w = refl
+may-good h Zq r e f an sa sn p hs a m k w = refl
+may-good h Nop r e f an sa sn p hs a m k w = refl
+may-good h Des r e f an sa sn p hs a m k w = refl
+may-good h Sre r e f an sa sn p hs a m k w = refl
+may-good h Srx r e f an sa sn p hs a m k w = refl
+may-good h Low r e f an sa sn p hs a m k w = refl
+may-good h Pde r e f an sa sn p hs a m k w = refl
+may-good h Pdx r e f an sa sn p hs a m k w = refl
+may-good h Bad r e f an sa sn p hs a m k w = absurd w
+
+-- nor does a seldom command that is no entry bring the end of a stay
+kept-stays :
+    (C : Chip) (c : Command) (r : Record) (e n : ℕ) (slow l : Bool) (x : Debt) (D : Device) (x′ : Debt) (D′ : Device) (clear : ℕ)
+    → c ≡ commandOf l (x .sleeps) r → isA Pde c ≡ false → isA Bad c ≡ false → x′ ≡ debtNext C c e x → D′ ≡ deviceNext C c r e n slow D
+    → Staying l (x .sleeps) (getD (D .at) CKE 0) (C .stay) clear → Staying (r .cke) (x′ .sleeps) (getD (D′ .at) CKE 0) (C .stay) clear
+unfolding commandOf falling debtNext deviceNext
+kept-stays C c r e n slow l x D x′ D′ clear names up good debt device st =
+    go (r .cke) refl l refl (eqb (r .pins) 1) refl (leb 7 (r .pins)) refl
+  where
+    go : (k : Bool) → r .cke ≡ k → (b : Bool) → l ≡ b → (y : Bool) → eqb (r .pins) 1 ≡ y → (z : Bool) → leb 7 (r .pins) ≡ z
+        → Staying k (x′ .sleeps) (getD (D′ .at) CKE 0) (C .stay) clear
+    go true i b j y u z v = inl refl
+    go false i true j true u z v =
+        let q : c ≡ Sre = names ∙ rw (i, j, u) in
+        inr (inl (ap (λ (d : Debt). d .sleeps) debt ∙ rw q))
+    go false i true j false u true v =
+        let q : c ≡ Pde = names ∙ rw (i, j, u, v) in
+        absurd (true≢false (sym (ap (isA Pde) q) ∙ up))
+    go false i true j false u false v =
+        let q : c ≡ Bad = names ∙ rw (i, j, u, v) in
+        absurd (true≢false (sym (ap (isA Bad) q) ∙ good))
+    go false i false j y u z v =
+        let q : c ≡ Low = names ∙ rw (i, j) in
+        let same : x′ ≡ x = debt ∙ rw q in
+        let whole : D′ .at ≡ D .at = ap (λ (d : Device). d .at) device ∙ rw q in
+        rw (same, whole) (inr (⊎-elim (λ w. absurd (true≢false (sym w ∙ j))) (λ w. w) st))
+
 -- the beginning
 pub lane-start : (C : Chip) (bytes : List ℕ) (from : ℕ) (l : Bool) (x : Debt) (h : List ℕ) (D : Device) (t : Track) (clear : ℕ) (real : Bool) (w : Asks)
-    → Fit C bytes from x t → Clears (C .most) (t .banks .actat) (t .banks .actno) (t .banks .shutat) (t .banks .shutno) (t .edge) clear
-    → clear ≤ t .edge + C .most + 1 → Owing x clear → (real ≡ true → (b : ℕ) → b < 8 → getD (t .banks .actno) b 0 ≤ t .count) → Asked C (regsOf D) w
+    → Fit C bytes from x D t → Clears (C .most) (t .banks .actat) (t .banks .actno) (t .banks .shutat) (t .banks .shutno) (t .edge) clear
+    → clear ≤ t .edge + C .most + 1 → Owing x clear → Staying l (x .sleeps) (getD (D .at) CKE 0) (C .stay) clear → (real ≡ true → (b : ℕ) → b < 8 → getD (t .banks .actno) b 0 ≤ t .count) → Asked C (regsOf D) w
     → Laning C bytes from l x h D t clear real false w l x h D t from
-lane-start C bytes from l x h D t clear real w fit due near owed acting asked = record {
+lane-start C bytes from l x h D t clear real w fit due near owed stays acting asked = record {
   each = λ v z k.
-      fold-start C (rankOf (restBy l x h D v) t) from bytes clear real w (restBy l x h D v) t refl fit (cleared C clear (restBy l x h D v) t due near owed) acting
+      fold-start C (rankOf (restBy l x h D v) t) from bytes clear real w (restBy l x h D v) t refl fit (cleared C clear (restBy l x h D v) t due near owed stays) acting
       z k asked;
 }
 
@@ -103,8 +197,11 @@ module _ {C : Chip} {bytes : List ℕ} {from : ℕ} {l₀ : Bool} {x₀ : Debt} 
         go true k = omega (arith, k)
         go false k = omega (arith, k, one .base .edge, one .base .room)
 
+    pub lane-turned : getD (D .at) CKE 0 ≤ lastEdge
+    lane-turned = one .turned
+
     pub lane-out : Smoothly C bytes from l₀ x₀ h₀ D₀ t₀ l x h D t at
-    lane-out = record { fit = record { base = one .base; debt = one .debt }; along = λ v z k. f .each v z k .along; later = one .later }
+    lane-out = record { fit = record { base = one .base; debt = one .debt; turned = one .turned }; along = λ v z k. f .each v z k .along; later = one .later }
 
     -- what the registers ask, worked out anew where it is asked for
     lane-asks : (usual : Bool) (w′ : Asks) → (stale && usual ≡ true → Asked C (regsOf D) w′) → (stale && usual ≡ false → w′ ≡ w)
@@ -120,6 +217,7 @@ module _ {C : Chip} {bytes : List ℕ} {from : ℕ} {l₀ : Bool} {x₀ : Debt} 
         broke = g .broke;
         asked = asks stale usual (g .asked) anew same;
         debt = g .debt;
+        turned = g .turned;
       };
     }
       where
@@ -169,7 +267,7 @@ module _ {C : Chip} {bytes : List ℕ} {from : ℕ} {l₀ : Bool} {x₀ : Debt} 
   module _ {clear : ℕ} {real stale : Bool} {w : Asks} {l : Bool} {x : Debt} {h : List ℕ} {D : Device} {t : Track} {at : ℕ}
       (f : Laning C bytes from l₀ x₀ h₀ D₀ t₀ clear real stale w l x h D t at) where
     -- a seldom command that may come
-    module _ (more : at < length bytes) (r : Record) (is : r ≡ recordAt bytes at) (c : Command) (names : c ≡ commandOf l r) (m : Bool)
+    module _ (more : at < length bytes) (r : Record) (is : r ≡ recordAt bytes at) (c : Command) (names : c ≡ commandOf l (x .sleeps) r) (m : Bool)
         (test : (eqb (r .step) 0 || leb clear (t .edge + r .step)) || not m ≡ false)
         (may : m ≡ true → MayCome (C .header) c r (t .edge + r .step) (t .floor) (t .banks .actno) (t .banks .shutat) (t .banks .shutno) (t .pre) h (D .at) (D .no) (D .need)) where
       tests : (eqb (r .step) 0 || leb clear (t .edge + r .step) ≡ false) × (not m ≡ false)
@@ -185,21 +283,33 @@ module _ {C : Chip} {bytes : List ℕ} {from : ℕ} {l₀ : Bool} {x₀ : Debt} 
       before = leb-false clear (t .edge + r .step) (now .1)
 
       pub lane-seldom :
-          (sa sn h′ : List ℕ) (D′ : Device) (x′ : Debt) (f′ : Floor)
-          → Leaves C c r (t .edge + r .step) (t .count + 1) (t .banks .shutat) (t .banks .shutno) h D x (t .floor) sa sn h′ D′ x′ f′
-          → (k : ℕ) → k ≡ rank c → (clear′ : ℕ)
-          → ((eqb k 1 || eqb k 2) || eqb k 10 ≡ true → Clears (C .most) (t .banks .actat) (t .banks .actno) sa sn (t .edge + r .step) clear′)
-          → ((eqb k 1 || eqb k 2) || eqb k 10 ≡ true → clear′ ≤ t .edge + r .step + C .most + 1) → ((eqb k 1 || eqb k 2) || eqb k 10 ≡ true → Owing x′ clear′)
-          → ((eqb k 1 || eqb k 2) || eqb k 10 ≡ false → clear′ ≡ clear)
+          (sa sn h′ : List ℕ) (D′ : Device) (x′ : Debt) (f′ : Floor) (clear′ : ℕ)
+          → Passes C c r (t .edge + r .step) (t .count + 1) (t .banks .actat) (t .banks .actno) (t .banks .shutat) (t .banks .shutno) h D x (t .floor) clear sa sn h′ D′ x′ f′ clear′
+          → (k : ℕ) → k ≡ rank c
           → Laning C bytes from l₀ x₀ h₀ D₀ t₀ clear′ real (stale || eqb k 0) w (r .cke) x′ h′ D′ (trackAfter t (t .edge + r .step) (t .count + 1) sa sn f′) (at + 6)
-      lane-seldom sa sn h′ D′ x′ f′ left k is-k clear′ due near owed kept = rw is-k (record { each = seldom })
+      lane-seldom sa sn h′ D′ x′ f′ clear′ passes k is-k = rw is-k (record { each = seldom })
         where
+          left : Leaves C c r (t .edge + r .step) (t .count + 1) (t .banks .actno) (t .banks .shutat) (t .banks .shutno) h D x (t .floor) sa sn h′ D′ x′ f′ (passes .turned)
+          left = passes .left
+
+          moves : Bool
+          moves = (isA Ref c || isA Pre c) || (isA Srx c || isA Pde c)
+
+          anew : Anew moves (C .most) (t .banks .actat) (t .banks .actno) sa sn (t .edge + r .step) x′ (r .cke) (passes .turned) (C .stay) clear clear′
+          anew = passes .anew
+
+          slow : Bool
+          slow = left .slow
+
+          is-slow : isA Pdx c ≡ true → slow ≡ slowNow (t .banks) D
+          is-slow z = left .slowly z ∙ sym (slow-by (t .banks) D)
+
           seldom : (v : Verdict) → v .outcome ≡ 0 → v .edge ≤ lastEdge
               → Folding C (rankOf (restBy l₀ x₀ h₀ D₀ v) t₀) from bytes clear′ real (stale || isA Mrs c) w (restBy (r .cke) x′ h′ D′ v)
               (trackAfter t (t .edge + r .step) (t .count + 1) sa sn f′) (at + 6)
           seldom v z u =
               fold-more C (rankOf (restBy l₀ x₀ h₀ D₀ v) t₀) from bytes g more r is some (restBy (r .cke) x′ h′ D′ v) t′ clear′ (stale || isA Mrs c) w real (step ∙ same) long
-              (free ((eqb k 1 || eqb k 2) || eqb k 10) refl) (λ y b i. omega (arith, g .acting y b i)) z asks
+              (free moves refl) (λ y b i. omega (arith, g .acting y b i)) z asks
             where
               g : Folding C (rankOf (restBy l₀ x₀ h₀ D₀ v) t₀) from bytes clear real stale w (restBy l x h D v) t at
               g = f .each v z u
@@ -223,25 +333,39 @@ module _ {C : Chip} {bytes : List ℕ} {from : ℕ} {l₀ : Bool} {x₀ : Debt} 
               step = seldom-step C (restBy l x h D v) t r clear (g .free) z before
                   (record { act = g .base .actsize; col = g .base .colsize; pre = g .base .presize }) c (sym names) (may (not-false m (tests .1)))
 
+              device : deviceNext C c r (t .edge + r .step) (t .count + 1) (slowNow (t .banks) D) D ≡ D′
+              device = sym (slow-device C c r (t .edge + r .step) (t .count + 1) slow (slowNow (t .banks) D) D is-slow) ∙ sym (left .device)
+
+              floor : floorNext C c r (slowNow (t .banks) D) (t .edge + r .step) (t .floor) ≡ f′
+              floor = sym (slow-floor C c r (t .edge + r .step) slow (slowNow (t .banks) D) (t .floor) is-slow) ∙ sym (left .floor)
+
               same : rankOf (nextRest C (restBy l x h D v) t r c) (nextTrack C (restBy l x h D v) t r c) ≡ rankOf (restBy (r .cke) x′ h′ D′ v) t′
-              same = λ i. rankOf (restBy (r .cke) (sym (left .debt) i) (sym (left .held) i) (sym (left .device) i) v)
-                  (trackAfter t (t .edge + r .step) (t .count + 1) (sym (left .starts) i) (sym (left .closers) i) (sym (left .floor) i))
+              same = λ i. rankOf (restBy (r .cke) (sym (left .debt) i) (sym (left .held) i) (device i) v)
+                  (trackAfter t (t .edge + r .step) (t .count + 1) (sym (left .starts) i) (sym (left .closers) i) (floor i))
+
+              good : isA Bad c ≡ false
+              good = may-good (C .header) c r (t .edge + r .step) (t .floor) (t .banks .actno) (t .banks .shutat) (t .banks .shutno) (t .pre) h (D .at) (D .no) (D .need)
+                  (may (not-false m (tests .1)))
 
               regs : isA Mrs c ≡ false → regsOf D′ ≡ regsOf D
-              regs m = ap (λ (y : Device). regsOf y) (left .device) ∙ same-regs C c r (t .edge + r .step) (t .count + 1) D m
+              regs m = ap (λ (y : Device). regsOf y) (left .device) ∙ same-regs C c r (t .edge + r .step) (t .count + 1) slow D m
 
               asks : stale || isA Mrs c ≡ false → Asked C (regsOf D′) w
               asks e = let n = neither stale (isA Mrs c) e in subst (λ (G : Regs). Asked C G w) (sym (regs (n .1))) (g .asked (n .0))
 
-              free : (y : Bool) → (eqb k 1 || eqb k 2) || eqb k 10 ≡ y → Clear C clear′ (restBy (r .cke) x′ h′ D′ v) t′
-              free true y = cleared C clear′ (restBy (r .cke) x′ h′ D′ v) t′ (due y) (near y) (owed y)
+              free : (y : Bool) → moves ≡ y → Clear C clear′ (restBy (r .cke) x′ h′ D′ v) t′
+              free true y = cleared C clear′ (restBy (r .cke) x′ h′ D′ v) t′ (anew .due y) (anew .near y) (anew .owed y)
+                  (subst (λ (a : ℕ). Staying (r .cke) (x′ .sleeps) a (C .stay) clear′) (left .turns) (anew .stays y))
               free false y =
-                  let n = neither (eqb k 1 || eqb k 2) (eqb k 10) y in
-                  let none : isA Pre c ≡ false = ap (λ (q : ℕ). eqb q 2) (sym is-k) ∙ neither (eqb k 1) (eqb k 2) (n .0) .1 in
-                  let awake : isA Srx c ≡ false = ap (λ (q : ℕ). eqb q 10) (sym is-k) ∙ n .1 in
-                  rw (kept y) (record {
+                  let n = neither (isA Ref c || isA Pre c) (isA Srx c || isA Pde c) y in
+                  let q = neither (isA Srx c) (isA Pde c) (n .1) in
+                  let none : isA Pre c ≡ false = neither (isA Ref c) (isA Pre c) (n .0) .1 in
+                  let awake : isA Srx c ≡ false = q .0 in
+                  let up : isA Pde c ≡ false = q .1 in
+                  rw (anew .kept y) (record {
                     due = same-soon C (t .banks) (t′ .banks) (t .edge) (t .edge + r .step) clear (omega arith) refl refl (sym (left .starts ∙ rw none))
                         (sym (left .closers ∙ rw none)) (g .free .due);
                     near = omega (arith, g .free .near);
                     owed = subst (λ (q : Debt). Owing q clear) (sym (left .debt)) (kept-owed C c (t .edge + r .step) x clear awake (g .free .owed));
+                    stays = kept-stays C c r (t .edge + r .step) (t .count + 1) slow l x D x′ D′ clear names up good (left .debt) (left .device) (g .free .stays);
                   })

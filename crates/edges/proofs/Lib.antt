@@ -21,3 +21,4 @@ pub mod Reaching
 pub mod Stamps
 pub mod Counts
 pub mod Clearing
+pub mod Exits

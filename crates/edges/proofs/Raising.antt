@@ -77,23 +77,23 @@ sixteen xs xs′ f f′ g g′ ask bid h k = λ i. low i ++ high i
     high : table (λ b. max (getD (table F ++ table G) (b + 8) 0) (bid b)) ≡ table (λ b. max (getD xs′ (b + 8) 0) g′)
     high = table-ext _ _ (λ b l. ap (λ x. max x (bid b)) (getD-high F G b 0 l) ∙ k b l)
 
-module _ (C : Chip) (c : Command) (r : Record) (e : ℕ) (g : Regs) (start four : ℕ) (f f′ : Floor) (W W′ : Waits) where
+module _ (C : Chip) (c : Command) (r : Record) (e : ℕ) (g : Regs) (start four : ℕ) (slow : Bool) (f f′ : Floor) (W W′ : Waits) where
   -- the floor and the waits after the record, each number raised by what is asked of it
   pub record Raises : Type 0 where
-    pub act : (b : ℕ) → b < 8 → Raised (getD (W .act) b 0) (f .act) (asksAct C c r e g start four b) (getD (W′ .act) b 0) (f′ .act)
-    pub rd : (b : ℕ) → b < 8 → Raised (getD (W .col) b 0) (f .rd) (asksRd C c r e g start four b) (getD (W′ .col) b 0) (f′ .rd)
-    pub wr : (b : ℕ) → b < 8 → Raised (getD (W .col) (b + 8) 0) (f .wr) (asksWr C c r e g start four b) (getD (W′ .col) (b + 8) 0) (f′ .wr)
-    pub pre : (b : ℕ) → b < 8 → Raised (getD (W .pre) b 0) (f .pre) (asksPre C c r e g start four b) (getD (W′ .pre) b 0) (f′ .pre)
-    pub refresh : Raised (getD (W .holds) 0 0) (f .idle) (asksRef C c r e g start four) (getD (W′ .holds) 0 0) (f′ .idle)
-    pub mode : Raised (getD (W .holds) 1 0) (max (f .idle) (f .out)) (asksMrs C c r e g start four) (getD (W′ .holds) 1 0) (max (f′ .idle) (f′ .out))
-    pub zq : Raised (getD (W .holds) 2 0) (f .idle) (asksRef C c r e g start four) (getD (W′ .holds) 2 0) (f′ .idle)
-    pub sleep : Raised (getD (W .holds) 3 0) (max (f .idle) (f .out)) (asksSre C c r e g start four) (getD (W′ .holds) 3 0) (max (f′ .idle) (f′ .out))
+    pub act : (b : ℕ) → b < 8 → Raised (getD (W .act) b 0) (f .act) (asksAct C c r e g start four slow b) (getD (W′ .act) b 0) (f′ .act)
+    pub rd : (b : ℕ) → b < 8 → Raised (getD (W .col) b 0) (f .rd) (asksRd C c r e g start four slow b) (getD (W′ .col) b 0) (f′ .rd)
+    pub wr : (b : ℕ) → b < 8 → Raised (getD (W .col) (b + 8) 0) (f .wr) (asksWr C c r e g start four slow b) (getD (W′ .col) (b + 8) 0) (f′ .wr)
+    pub pre : (b : ℕ) → b < 8 → Raised (getD (W .pre) b 0) (f .pre) (asksPre C c r e g start four slow b) (getD (W′ .pre) b 0) (f′ .pre)
+    pub refresh : Raised (getD (W .holds) 0 0) (f .idle) (asksRef C c r e g start four slow) (getD (W′ .holds) 0 0) (f′ .idle)
+    pub mode : Raised (getD (W .holds) 1 0) (max (f .idle) (f .out)) (asksMrs C c r e g start four slow) (getD (W′ .holds) 1 0) (max (f′ .idle) (f′ .out))
+    pub zq : Raised (getD (W .holds) 2 0) (f .idle) (asksRef C c r e g start four slow) (getD (W′ .holds) 2 0) (f′ .idle)
+    pub sleep : Raised (getD (W .holds) 3 0) (max (f .idle) (f .out)) (asksSre C c r e g start four slow) (getD (W′ .holds) 3 0) (max (f′ .idle) (f′ .out))
 
-  pub waits-under : Raises → waitsNext C c r e g start four (under f W) ≡ under f′ W′
+  pub waits-under : Raises → waitsNext C c r e g start four slow (under f W) ≡ under f′ W′
   unfolding waitsNext under
   waits-under h = λ i. record {
-    act = eight (W .act) (W′ .act) (f .act) (f′ .act) (asksAct C c r e g start four) (h .act) i;
-    col = sixteen (W .col) (W′ .col) (f .rd) (f′ .rd) (f .wr) (f′ .wr) (asksRd C c r e g start four) (asksWr C c r e g start four) (h .rd) (h .wr) i;
-    pre = eight (W .pre) (W′ .pre) (f .pre) (f′ .pre) (asksPre C c r e g start four) (h .pre) i;
+    act = eight (W .act) (W′ .act) (f .act) (f′ .act) (asksAct C c r e g start four slow) (h .act) i;
+    col = sixteen (W .col) (W′ .col) (f .rd) (f′ .rd) (f .wr) (f′ .wr) (asksRd C c r e g start four slow) (asksWr C c r e g start four slow) (h .rd) (h .wr) i;
+    pre = eight (W .pre) (W′ .pre) (f .pre) (f′ .pre) (asksPre C c r e g start four slow) (h .pre) i;
     holds = h .refresh i ∷ h .mode i ∷ h .zq i ∷ h .sleep i ∷ [];
   }

@@ -3,7 +3,7 @@
 use Prim.Native.Nat.{ℕ, zero, suc, _+_, _*_, _-_, _/_, _%_, _≤_, _<_}
 use native.Mathlib.Omega.{arith}
 use native.Mathlib.Decide.{ℕ-discrete}
-use mathlib.Core.Bool.{Bool, true, false, cond, _||_}
+use mathlib.Core.Bool.{Bool, true, false, cond, _&&_, _||_}
 use mathlib.Core.List.{List}
 use mathlib.Core.Path.{_≡_, refl, sym, subst}
 use lib.Dec.{leb, ltb}
@@ -15,20 +15,22 @@ use Rattle.answers.specs.declared.Break.the-variants.{Fine, Broken}
 use Rattle.answers.specs.declared.Verdict.{Verdict}
 use Rattle.records.specs.declared.Record.{Record}
 use Rattle.records.specs.declared.Command.{Command}
-use Rattle.records.specs.declared.Command.the-variants.{Act, Ref, Sre, Srx}
+use Rattle.records.specs.declared.Command.the-variants.{Mrs, Ref, Act, Zq, Sre, Srx, Pdx}
 use Rattle.records.specs.Command.{isA, bankIn}
 use Rattle.records.specs.Record.{records, hasZero}
 use Rattle.chip.specs.declared.Chip.{Chip}
 use Rattle.running.specs.declared.Late.{Late}
-use Rattle.running.specs.Late.{why, sooner}
+use Rattle.running.specs.Late.{why}
+use Rattle.running.specs.Next.{changing, resetsNow}
 use Rattle.running.specs.Said.{isClean, first, verdictAt, lateAt}
 use Rattle.running.specs.Ranges.{limit, lastEdge, counted, Small}
 use Rattle.laws.proofs.Both.{both}
 use Rattle.running.proofs.Ranging.{small-test}
 use Rattle.edges.specs.declared.Debt.{Debt}
 use Rattle.edges.specs.declared.Rank.{Rank}
-use Rattle.edges.specs.Next.{setIf, counting, paid, debtNext, banksNext, actsNext}
-use Rattle.edges.specs.Says.{commandIn, saysBy, saysOf}
+use Rattle.edges.specs.Next.{setIf, counting, paid, stamped, turnedTo, slowNow, deviceNext, debtNext, banksNext, actsNext}
+use Rattle.edges.specs.Views.{REF, MRS, ZQ, SRE, SRX, DLL, CKE, PDX, SLOW}
+use Rattle.edges.specs.Says.{soonestOf, commandIn, saysBy, saysOf}
 use Rattle.edges.specs.Step.{movedOf, stoppedOf, stepOf, foldOf}
 use Rattle.edges.specs.Ranges.{edgesOk, farthest, rankInRange, Ranged}
 use Rattle.edges.specs.Ends.{takenOf, endOf, endedOf}
@@ -65,13 +67,15 @@ ranged s h =
     let d = both _ _ (a .1) in
     let t = both _ _ (d .1) in
     let f = both _ _ (t .1) in
-    let b = both _ _ (f .1) in
+    let k = both _ _ (f .1) in
+    let b = both _ _ (k .1) in
     record {
       edge = n .1;
       count = n .0;
       debt = leb-true _ _ (d .0);
       turn = leb-true _ _ (t .0);
       broke = leb-true _ _ (f .0);
+      turned = leb-true _ _ (k .0);
       acted = edges-at (s .banks .actat) 8 (b .0);
       ring = edges-at (s .acts .at) 4 (b .1);
     }
@@ -85,6 +89,7 @@ in-range s r =
       le-leb (s .debt .due - counting (s .debt) (s .edge)) farthest (r .debt),
       le-leb (s .acts .turn) 3 (r .turn),
       le-leb (s .first .edge) lastEdge (r .broke),
+      le-leb (getD (s .device .at) CKE 0) lastEdge (r .turned),
       edges-ok (s .banks .actat) 8 (r .acted),
       edges-ok (s .acts .at) 4 (r .ring),
     )
@@ -102,21 +107,25 @@ first-edge e v w a b = go (isClean v)
     go true = b
     go false = a
 
-says-edge : (e n : ℕ) (x24 x25 : Late) (b o : Break) → saysBy e n x24 x25 b o .edge ≤ e
+says-edge : (e n : ℕ) (x24 x25 x28 : Late) (b o d f : Break) → saysBy e n x24 x25 x28 b o d f .edge ≤ e
 unfolding saysBy
-says-edge e n x24 x25 b o = before (ltb (sooner x24 x25 .at) e) refl
+says-edge e n x24 x25 x28 b o d f = before (ltb (soonestOf x24 x25 x28 .at) e) refl
   where
-    before : (x : Bool) → ltb (sooner x24 x25 .at) e ≡ x
-        → cond x (verdictAt (sooner x24 x25 .at) 0 (why (sooner x24 x25)))
-        (first (verdictAt e n b) (first (verdictAt e 0 (lateAt e x24)) (verdictAt e 0 o))) .edge ≤ e
-    before true z = omega (arith, ltb-true (sooner x24 x25 .at) e z)
+    before : (x : Bool) → ltb (soonestOf x24 x25 x28 .at) e ≡ x
+        → cond x (verdictAt (soonestOf x24 x25 x28 .at) 0 (why (soonestOf x24 x25 x28)))
+        (first (verdictAt e n b) (first (verdictAt e 0 (lateAt e x24)) (first (verdictAt e 0 o)
+        (first (verdictAt e n d) (first (verdictAt e 0 (lateAt e x28)) (verdictAt e n f)))))) .edge ≤ e
+    before true z = omega (arith, ltb-true (soonestOf x24 x25 x28 .at) e z)
     before false z =
-        first-edge e (verdictAt e n b) (first (verdictAt e 0 (lateAt e x24)) (verdictAt e 0 o)) (told-edge e n b)
-        (first-edge e (verdictAt e 0 (lateAt e x24)) (verdictAt e 0 o) (told-edge e 0 (lateAt e x24)) (told-edge e 0 o))
+        first-edge e (verdictAt e n b) _ (told-edge e n b)
+        (first-edge e (verdictAt e 0 (lateAt e x24)) _ (told-edge e 0 (lateAt e x24))
+        (first-edge e (verdictAt e 0 o) _ (told-edge e 0 o)
+        (first-edge e (verdictAt e n d) _ (told-edge e n d)
+        (first-edge e (verdictAt e 0 (lateAt e x28)) _ (told-edge e 0 (lateAt e x28)) (told-edge e n f)))))
 
 said-edge : (C : Chip) (s : Rank) (r : Record) → saysOf C s r .edge ≤ s .edge + r .step
 unfolding saysOf
-said-edge C s r = says-edge _ _ _ _ _ _
+said-edge C s r = says-edge _ _ _ _ _ _ _ _ _
 
 -- ── A record keeps the ranges ───────────────────────────────────────────────────────────────
 
@@ -128,6 +137,28 @@ stored false xs i e b l m = m
 turned : (x : Bool) (n : ℕ) → n ≤ 3 → cond x ((n + 1) % 4) n ≤ 3
 turned true n l = omega arith
 turned false n l = l
+
+-- the latest change of CKE is not after the record
+pub change-near : (c : Command) (r : Record) (slow : Bool) (xs : List ℕ) (e : ℕ) → e ≤ lastEdge → getD xs CKE 0 ≤ lastEdge
+    → getD (turnedTo c slow (stamped c r xs e e e e e e) e e e) CKE 0 ≤ lastEdge
+change-near c r slow xs e l m =
+    let x1 = setIf (isA Ref c) xs REF e in
+    let x2 = setIf (isA Mrs c) x1 MRS e in
+    let x3 = setIf (isA Zq c) x2 ZQ e in
+    let x4 = setIf (isA Sre c) x3 SRE e in
+    let x5 = setIf (isA Srx c) x4 SRX e in
+    let x6 = setIf (resetsNow c r) x5 DLL e in
+    let x7 = setIf (changing c) x6 CKE e in
+    let x8 = setIf (isA Pdx c) x7 PDX e in
+    stored (isA Pdx c && slow) x8 SLOW e CKE l
+    (stored (isA Pdx c) x7 PDX e CKE l
+    (stored (changing c) x6 CKE e CKE l
+    (stored (resetsNow c r) x5 DLL e CKE l
+    (stored (isA Srx c) x4 SRX e CKE l
+    (stored (isA Sre c) x3 SRE e CKE l
+    (stored (isA Zq c) x2 ZQ e CKE l
+    (stored (isA Mrs c) x1 MRS e CKE l
+    (stored (isA Ref c) xs REF e CKE l m))))))))
 
 module _ (C : Chip) (small : Small C) where
   paid-near : (e d : ℕ) → d - e ≤ farthest → paid (C .trefi) e d - e ≤ farthest
@@ -185,6 +216,7 @@ module _ (C : Chip) (small : Small C) where
         debt = later;
         turn = range .turn;
         broke = l;
+        turned = range .turned;
         acted = range .acted;
         ring = range .ring;
       },
@@ -192,7 +224,7 @@ module _ (C : Chip) (small : Small C) where
     )
 
     moved-goes : Goes s (movedOf C s r)
-    unfolding movedOf banksNext actsNext
+    unfolding movedOf banksNext actsNext deviceNext
     moved-goes = (
       record {
         edge = omega (arith, range .edge);
@@ -200,6 +232,7 @@ module _ (C : Chip) (small : Small C) where
         debt = debt-near (commandIn s r) (s .edge + r .step) (s .debt) later;
         turn = turned (isA Act (commandIn s r)) (s .acts .turn) (range .turn);
         broke = range .broke;
+        turned = change-near (commandIn s r) r (slowNow (s .banks) (s .device)) (s .device .at) (s .edge + r .step) (omega (arith, range .edge)) (range .turned);
         acted = λ b l. stored (isA Act (commandIn s r)) (s .banks .actat) (bankIn r) (s .edge + r .step) b (omega (arith, range .edge)) (range .acted b l);
         ring = λ i l. stored (isA Act (commandIn s r)) (s .acts .at) (s .acts .turn) (s .edge + r .step) i (omega (arith, range .edge)) (range .ring i l);
       },

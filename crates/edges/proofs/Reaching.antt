@@ -27,10 +27,11 @@ use Rattle.edges.proofs.Folding.{Lengths, Whole, stand-at, stand-sizes,
 module _ (C : Chip) (bytes : List ℕ) where
   -- what a rank needs to go on
   fits : (n : Rank) (at : ℕ) → Small C → Ranged n → Whole n → at ≤ length bytes → (length bytes - at) % 6 ≡ 0 → n .count + (length bytes - at) / 6 ≤ limit
-      → Fit C bytes at (n .debt) (trackIn n)
+      → Fit C bytes at (n .debt) (n .device) (trackIn n)
   fits n at small r w within sixes room = record {
     base = stand-at C bytes at (trackIn n) small within sixes (r .edge) room (r .turn) (r .acted) (r .ring) (w .track);
     debt = r .debt;
+    turned = r .turned;
   }
 
   pub reached-start : (s : Rank) → Ready C s bytes → Whole s → s .first .outcome ≡ 0 → Reached C bytes s 0 s 0
@@ -65,7 +66,7 @@ module _ (C : Chip) (bytes : List ℕ) where
   reached-lane s from f l x h D t at q =
       let b = q .fit .base in
       record {
-        fit = record { base = stand-at C bytes at _ (b .small) (b .within) (b .sixes) (b .edge) (b .room) (b .turn) (b .acted) (b .ring) long; debt = q .fit .debt };
+        fit = record { base = stand-at C bytes at _ (b .small) (b .within) (b .sixes) (b .edge) (b .room) (b .turn) (b .acted) (b .ring) long; debt = q .fit .debt; turned = q .fit .turned };
         holds = refl;
         clean = f .clean;
         broke = f .broke;
@@ -92,6 +93,7 @@ module _ (C : Chip) (bytes : List ℕ) where
       edge = f .fit .base .edge;
       count = omega (arith, f .fit .base .room);
       debt = f .fit .debt;
+      turned = f .fit .turned;
       turn = f .fit .base .turn;
       broke = f .broke;
       acted = f .fit .base .acted;

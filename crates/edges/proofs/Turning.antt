@@ -10,7 +10,6 @@ use lib.Dec.{eqb}
 use lib.ListN.{getD}
 use borrow.Author.Tests.{eq-eqb, ne-eqb}
 use Rattle.laws.proofs.Eight.{getD-table}
-use Rattle.answers.specs.declared.Break.the-variants.{Fine}
 use Rattle.records.specs.declared.Record.{Record}
 use Rattle.records.specs.declared.Command.{Command}
 use Rattle.records.specs.declared.Command.the-variants.{Pre, Act, Wr, Rd, Nop, Des}
@@ -23,13 +22,13 @@ use Rattle.edges.specs.declared.Acts.{Acts}
 use Rattle.edges.specs.declared.Floor.{Floor}
 use Rattle.edges.specs.declared.Rank.{Rank}
 use Rattle.edges.specs.Asks.{waitFor}
-use Rattle.edges.specs.Says.{brokenIn, commandIn}
+use Rattle.edges.specs.Says.{commandIn}
 use Rattle.edges.specs.Step.{movedOf, stepOf}
 use Rattle.edges.specs.Floors.{under, settled}
 use Rattle.edges.specs.Ways.{shutFloor, columnFloor, fourAt, actFloor}
 use Rattle.edges.specs.Running.{Track, Rest, heldBy, rankOf, Quiet, Standing}
 use Rattle.edges.proofs.Lists.{getD-low, getD-high}
-use Rattle.edges.proofs.Easy.{NoneDue, NotOwed, says-none}
+use Rattle.edges.proofs.Easy.{NoneDue, NotOwed, NotLong, AllFine, says-none}
 use Rattle.edges.proofs.Fine.{act-fine, rd-fine, wr-fine, pre-fine, nop-fine, des-fine}
 use Rattle.edges.proofs.Ways.{Sized}
 use Rattle.edges.proofs.Moving.{after, shutBanks, shutWaits, actBanks, actWaits, actActs, colBanks, colWaits, startBy, nop-moves, des-moves, pre-moves, act-moves, rd-moves, wr-moves, rd-auto-moves, wr-auto-moves}
@@ -95,9 +94,13 @@ module _ (C : Chip) (w : Asks) (set dll : Bool) (clear : ℕ) (d : Rest) (quiet 
   not-owed = ⊎-elim (λ x. inl x) (λ x. inr (omega (arith, x, before))) (quiet .owed)
 
   -- the step is the move
-  clean-step : brokenIn C (rankOf d t) r e ≡ Fine → stepOf C (rankOf d t) r ≡ movedOf C (rankOf d t) r
+  not-long : NotLong C (rankOf d t) e
+  unfolding settled
+  not-long = inl (quiet .level)
+
+  clean-step : AllFine C (rankOf d t) r e → stepOf C (rankOf d t) r ≡ movedOf C (rankOf d t) r
   unfolding stepOf settled
-  clean-step fine = rw (eq-eqb (d .first .outcome) 0 (quiet .clean), says-none C (rankOf d t) r none-due not-owed fine)
+  clean-step fine = rw (eq-eqb (d .first .outcome) 0 (quiet .clean), says-none C (rankOf d t) r none-due not-owed not-long fine)
 
   by-pins : commandIn (rankOf d t) r ≡ byPins (r .pins)
   unfolding settled commandOf
@@ -127,7 +130,7 @@ module _ (C : Chip) (w : Asks) (set dll : Bool) (clear : ℕ) (d : Rest) (quiet 
     device = d .device;
   })
 
-  turned : (B : Banks) (W : Waits) (A : Acts) (g : Floor) → W .holds ≡ d .holds → brokenIn C (rankOf d t) r e ≡ Fine
+  turned : (B : Banks) (W : Waits) (A : Acts) (g : Floor) → W .holds ≡ d .holds → AllFine C (rankOf d t) r e
       → movedOf C (rankOf d t) r ≡ settled g (after C s f r B W A) → stepOf C (rankOf d t) r ≡ rankOf d (next B W A g)
   turned B W A g h fine moved = clean-step fine ∙ moved ∙ level-same B W A g h
 
@@ -181,7 +184,7 @@ module _ (C : Chip) (w : Asks) (set dll : Bool) (clear : ℕ) (d : Rest) (quiet 
 
   module _ (opened : getD (t .banks .shutno) own 0 < getD (t .banks .actno) own 0) where
     module _ (p : r .pins ≡ 5) (z : dll ≡ true) (x : getD (t .col) own 0 ≤ e) (y : f .rd ≤ e) where
-      rd-clean : brokenIn C (rankOf d t) r e ≡ Fine
+      rd-clean : AllFine C (rankOf d t) r e
       unfolding byPins settled
       rd-clean = rd-fine C (rankOf d t) r e (pins-of 5 Rd p refl .0) opened (quiet .reset ∙ z) (both-over (wait-rd f (s .waits) r) x y)
 
@@ -194,7 +197,7 @@ module _ (C : Chip) (w : Asks) (set dll : Bool) (clear : ℕ) (d : Rest) (quiet 
       rd-auto-turn o = turned _ _ (t .acts) _ refl rd-clean (rd-auto-moves C s f r size w (quiet .asked) (pins-of 5 Rd p refl .1) o)
 
     module _ (p : r .pins ≡ 4) (x : getD (t .col) (own + 8) 0 ≤ e) (y : f .wr ≤ e) where
-      wr-clean : brokenIn C (rankOf d t) r e ≡ Fine
+      wr-clean : AllFine C (rankOf d t) r e
       unfolding byPins settled
       wr-clean = wr-fine C (rankOf d t) r e (pins-of 4 Wr p refl .0) opened (both-over (wait-wr f (s .waits) r) x y)
 

@@ -43,6 +43,7 @@ module _ (C : Chip) (s : Rank) (from : ℕ) (bytes : List ℕ) where
     debt = f .debt;
     turn = f .base .turn;
     broke = f .broke;
+    turned = f .turned;
     acted = f .base .acted;
     ring = f .base .ring;
   }
@@ -54,7 +55,7 @@ module _ (C : Chip) (s : Rank) (from : ℕ) (bytes : List ℕ) where
   stand-by d t at small within sixes room r l = stand-at C bytes at t small within sixes (r .edge) room (r .turn) (r .acted) (r .ring) l
 
   -- the beginning
-  pub fold-start : (clear : ℕ) (real : Bool) (w : Asks) (d : Rest) (t : Track) → s ≡ rankOf d t → Fit C bytes from (d .debt) t → Clear C clear d t
+  pub fold-start : (clear : ℕ) (real : Bool) (w : Asks) (d : Rest) (t : Track) → s ≡ rankOf d t → Fit C bytes from (d .debt) (d .device) t → Clear C clear d t
       → (real ≡ true → (b : ℕ) → b < 8 → getD (t .banks .actno) b 0 ≤ t .count) → d .first .outcome ≡ 0 → d .first .edge ≤ lastEdge
       → Asked C (regsOf (d .device)) w → Folding C s from bytes clear real false w d t from
   fold-start clear real w d t same fit free acting clean broke asked = record {
@@ -67,6 +68,7 @@ module _ (C : Chip) (s : Rank) (from : ℕ) (bytes : List ℕ) where
     broke = broke;
     asked = λ _. asked;
     debt = fit .debt;
+    turned = fit .turned;
   }
 
   module _ {clear : ℕ} {real stale : Bool} {w : Asks} {d : Rest} {t : Track} {at : ℕ} (f : Folding C s from bytes clear real stale w d t at) where
@@ -107,12 +109,13 @@ module _ (C : Chip) (s : Rank) (from : ℕ) (bytes : List ℕ) where
       along = along-also C bytes (f .along) (q .along d quiet);
       later = omega (arith, f .later, q .later);
       base = stand-at C bytes at′ t′ (st .small) (st .within) (st .sixes) (st .edge) (st .room) (st .turn) (st .acted) (st .ring) (stand-sizes st);
-      free = record { due = st .due; near = st .soon; owed = f .free .owed };
+      free = record { due = st .due; near = st .soon; owed = f .free .owed; stays = f .free .stays };
       acting = λ _. acts;
       clean = f .clean;
       broke = f .broke;
       asked = λ _. asked;
       debt = debt-later (d .debt .sleeps) (f .debt);
+      turned = f .turned;
     }
       where
         st : Standing C clear bytes at′ t′
@@ -156,4 +159,5 @@ module _ (C : Chip) (s : Rank) (from : ℕ) (bytes : List ℕ) where
             broke = k .broke;
             asked = asked;
             debt = k .debt;
+            turned = k .turned;
           }

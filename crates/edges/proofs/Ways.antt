@@ -11,7 +11,7 @@ use lib.ListN.{getD, length, length-set}
 use borrow.Author.Tests.{eq-eqb, ne-eqb}
 use Rattle.records.specs.declared.Record.{Record}
 use Rattle.records.specs.declared.Command.{Command}
-use Rattle.records.specs.declared.Command.the-variants.{Pre, Act, Wr, Rd, Nop, Des, Low}
+use Rattle.records.specs.declared.Command.the-variants.{Pre, Act, Wr, Rd, Nop, Des, Low, Pde}
 use Rattle.records.specs.Command.{a10, bankIn}
 use Rattle.chip.specs.declared.Chip.{Chip}
 use Rattle.chip.specs.declared.Regs.{Regs}
@@ -55,14 +55,14 @@ pub record Sized (W : Waits) : Type 0 where
   pub col : length (W .col) ≡ 16
   pub pre : length (W .pre) ≡ 8
 
-module _ (C : Chip) (r : Record) (e : ℕ) (g : Regs) (start four : ℕ) (f : Floor) (W : Waits) (size : Sized W) where
+module _ (C : Chip) (r : Record) (e : ℕ) (g : Regs) (start four : ℕ) (slow : Bool) (f : Floor) (W : Waits) (size : Sized W) where
   abbrev own : ℕ
   own = bankIn r
 
   -- a record that asks nothing
-  nothing : (c : Command) → ((b : ℕ) → asksAct C c r e g start four b ≡ 0) → ((b : ℕ) → asksRd C c r e g start four b ≡ 0)
-      → ((b : ℕ) → asksWr C c r e g start four b ≡ 0) → ((b : ℕ) → asksPre C c r e g start four b ≡ 0) → asksRef C c r e g start four ≡ 0
-      → asksMrs C c r e g start four ≡ 0 → asksSre C c r e g start four ≡ 0 → Raises C c r e g start four f f W W
+  nothing : (c : Command) → ((b : ℕ) → asksAct C c r e g start four slow b ≡ 0) → ((b : ℕ) → asksRd C c r e g start four slow b ≡ 0)
+      → ((b : ℕ) → asksWr C c r e g start four slow b ≡ 0) → ((b : ℕ) → asksPre C c r e g start four slow b ≡ 0) → asksRef C c r e g start four slow ≡ 0
+      → asksMrs C c r e g start four slow ≡ 0 → asksSre C c r e g start four slow ≡ 0 → Raises C c r e g start four slow f f W W
   nothing c a rd wr p h m s = record {
     act = λ b l. rw (a b) (omega arith);
     rd = λ b l. rw (rd b) (omega arith);
@@ -74,17 +74,21 @@ module _ (C : Chip) (r : Record) (e : ℕ) (g : Regs) (start four : ℕ) (f : Fl
     sleep = rw s (omega arith);
   }
 
-  pub nop-raises : Raises C Nop r e g start four f f W W
+  pub nop-raises : Raises C Nop r e g start four slow f f W W
   unfolding asksAct asksRd asksWr asksPre asksRef asksMrs asksSre
   nop-raises = nothing Nop (λ b. refl) (λ b. refl) (λ b. refl) (λ b. refl) refl refl refl
 
-  pub des-raises : Raises C Des r e g start four f f W W
+  pub des-raises : Raises C Des r e g start four slow f f W W
   unfolding asksAct asksRd asksWr asksPre asksRef asksMrs asksSre
   des-raises = nothing Des (λ b. refl) (λ b. refl) (λ b. refl) (λ b. refl) refl refl refl
 
-  pub low-raises : Raises C Low r e g start four f f W W
+  pub low-raises : Raises C Low r e g start four slow f f W W
   unfolding asksAct asksRd asksWr asksPre asksRef asksMrs asksSre
   low-raises = nothing Low (λ b. refl) (λ b. refl) (λ b. refl) (λ b. refl) refl refl refl
+
+  pub pde-raises : Raises C Pde r e g start four slow f f W W
+  unfolding asksAct asksRd asksWr asksPre asksRef asksMrs asksSre
+  pde-raises = nothing Pde (λ b. refl) (λ b. refl) (λ b. refl) (λ b. refl) refl refl refl
 
   module _ (w : Asks) (asked : Asked C g w) where
     abbrev actWaits : Waits
@@ -95,7 +99,7 @@ module _ (C : Chip) (r : Record) (e : ℕ) (g : Regs) (start four : ℕ) (f : Fl
       holds = W .holds;
     }
 
-    pub act-raises : Raises C Act r e g start four f (actFloor f (e + C .trrd) four) W actWaits
+    pub act-raises : Raises C Act r e g start four slow f (actFloor f (e + C .trrd) four) W actWaits
     unfolding asksAct asksRd asksWr asksPre asksRef asksMrs asksSre
     act-raises = record {
       act = λ b l. raised-by _ _ (cond (eqb own b) (e + C .trc) 0) (max (e + C .trrd) four) (omega arith) (at-own (W .act) own (e + C .trc) b (omega (arith, size .act))) refl;
@@ -117,7 +121,7 @@ module _ (C : Chip) (r : Record) (e : ℕ) (g : Regs) (start four : ℕ) (f : Fl
     pre-own : (n : ℕ) (b : ℕ) → b < 8 → getD (raisedAt (W .pre) own (e + n)) b 0 ≡ max (getD (W .pre) b 0) (cond (eqb own b) (e + n) 0)
     pre-own n b l = at-own (W .pre) own (e + n) b (omega (arith, size .pre))
 
-    pub rd-raises : a10 r ≡ false → Raises C Rd r e g start four f (columnFloor f w true rdLong e) W (colWaits true)
+    pub rd-raises : a10 r ≡ false → Raises C Rd r e g start four slow f (columnFloor f w true rdLong e) W (colWaits true)
     unfolding asksAct asksRd asksWr asksPre asksRef asksMrs asksSre
     rd-raises z = record {
       act = λ b l. raised-none _ _ (rw z);
@@ -130,7 +134,7 @@ module _ (C : Chip) (r : Record) (e : ℕ) (g : Regs) (start four : ℕ) (f : Fl
       sleep = raised-all _ _ (e + col19 w rdLong) (rw (z, n19-is C g w asked (r .a)) (omega arith)) (omega arith);
     }
 
-    pub wr-raises : a10 r ≡ false → Raises C Wr r e g start four f (columnFloor f w false rdLong e) W (colWaits false)
+    pub wr-raises : a10 r ≡ false → Raises C Wr r e g start four slow f (columnFloor f w false rdLong e) W (colWaits false)
     unfolding asksAct asksRd asksWr asksPre asksRef asksMrs asksSre
     wr-raises z = record {
       act = λ b l. raised-none _ _ (rw z);
@@ -149,7 +153,7 @@ module _ (C : Chip) (r : Record) (e : ℕ) (g : Regs) (start four : ℕ) (f : Fl
     act-own : (b : ℕ) → b < 8 → getD (raisedAt (W .act) own (start + C .trp)) b 0 ≡ max (getD (W .act) b 0) (cond (eqb own b) (start + C .trp) 0)
     act-own b l = at-own (W .act) own (start + C .trp) b (omega (arith, size .act))
 
-    pub rd-auto-raises : a10 r ≡ true → Raises C Rd r e g start four f (shutFloor (columnFloor f w true rdLong e) (start + C .trp)) W (autoWaits true)
+    pub rd-auto-raises : a10 r ≡ true → Raises C Rd r e g start four slow f (shutFloor (columnFloor f w true rdLong e) (start + C .trp)) W (autoWaits true)
     unfolding asksAct asksRd asksWr asksPre asksRef asksMrs asksSre
     rd-auto-raises z = record {
       act = λ b l. raised-by _ _ (cond (eqb own b) (start + C .trp) 0) 0 (rw z (omega arith)) (act-own b l) (omega arith);
@@ -166,7 +170,7 @@ module _ (C : Chip) (r : Record) (e : ℕ) (g : Regs) (start four : ℕ) (f : Fl
           (swap (f .idle) (start + C .trp) (f .out) (e + col19 w rdLong));
     }
 
-    pub wr-auto-raises : a10 r ≡ true → Raises C Wr r e g start four f (shutFloor (columnFloor f w false rdLong e) (start + C .trp)) W (autoWaits false)
+    pub wr-auto-raises : a10 r ≡ true → Raises C Wr r e g start four slow f (shutFloor (columnFloor f w false rdLong e) (start + C .trp)) W (autoWaits false)
     unfolding asksAct asksRd asksWr asksPre asksRef asksMrs asksSre
     wr-auto-raises z = record {
       act = λ b l. raised-by _ _ (cond (eqb own b) (start + C .trp) 0) 0 (rw z (omega arith)) (act-own b l) (omega arith);
@@ -184,7 +188,7 @@ module _ (C : Chip) (r : Record) (e : ℕ) (g : Regs) (start four : ℕ) (f : Fl
   own-closes false y = refl
 
   pub pre-raises : a10 r ≡ false
-      → Raises C Pre r e g start four f (shutFloor f (start + C .trp)) W (record { act = raisedAt (W .act) own (start + C .trp); col = W .col; pre = W .pre; holds = W .holds })
+      → Raises C Pre r e g start four slow f (shutFloor f (start + C .trp)) W (record { act = raisedAt (W .act) own (start + C .trp); col = W .col; pre = W .pre; holds = W .holds })
   unfolding asksAct asksRd asksWr asksPre asksRef asksMrs asksSre
   pre-raises z = record {
     act = λ b l. raised-by _ _ (cond (eqb own b) (start + C .trp) 0) 0 (rw (z, own-closes (eqb own b) false) (omega arith)) (at-own (W .act) own (start + C .trp) b (omega (arith, size .act))) (omega arith);

@@ -8,7 +8,7 @@ use lib.ListN.{getD}
 use Rattle.laws.specs.Eight.{table}
 use Rattle.records.specs.declared.Record.{Record}
 use Rattle.records.specs.declared.Command.{Command}
-use Rattle.records.specs.declared.Command.the-variants.{Mrs, Ref, Pre, Act, Wr, Rd, Zq, Nop, Des, Sre, Srx, Low, Bad}
+use Rattle.records.specs.declared.Command.the-variants.{Mrs, Ref, Pre, Act, Wr, Rd, Zq, Nop, Des, Sre, Srx, Low, Bad, Pde, Pdx}
 use Rattle.records.specs.Command.{isA, a10, bankIn}
 use Rattle.chip.specs.declared.Chip.{Chip}
 use Rattle.chip.specs.declared.Regs.{Regs}
@@ -42,8 +42,9 @@ abbrev pub most : List ℕ → ℕ
 most [] = 0
 most (n ∷ ns) = max n (most ns)
 
--- of a record r of the command c at the edge e: g the registers in force at it, start that of its precharge, four what rule 8 asks
-module _ (C : Chip) (c : Command) (r : Record) (e : ℕ) (g : Regs) (start four : ℕ) where
+-- of a record r of the command c at the edge e: g the registers in force at it, start that of its precharge, four what rule 8 asks, slow that an
+-- exit is one of precharge power-down with MR0 A12 = 0
+module _ (C : Chip) (c : Command) (r : Record) (e : ℕ) (g : Regs) (start four : ℕ) (slow : Bool) where
   -- its bank is b
   abbrev pub own : ℕ → Bool
   own b = eqb (bankIn r) b
@@ -57,47 +58,48 @@ module _ (C : Chip) (c : Command) (r : Record) (e : ℕ) (g : Regs) (start four 
   asksAct b =
       most
       (when (closesNow b) (start + C .trp) ∷ when (isA Act c && own b) (e + C .trc) ∷ when (isA Act c) (e + C .trrd) ∷ when (isA Act c) four
-      ∷ when (isA Ref c) (e + C .trfc) ∷ when (isA Mrs c) (e + C .tmod) ∷ when (isA Zq c) (e + need18 C r) ∷ when (isA Srx c) (e + C .txs) ∷ [])
+      ∷ when (isA Ref c) (e + C .trfc) ∷ when (isA Mrs c) (e + C .tmod) ∷ when (isA Zq c) (e + need18 C r) ∷ when (isA Srx c) (e + C .txs) ∷ when (isA Pdx c) (e + C .txp) ∷ [])
 
   unfoldable pub asksRd : (bank : ℕ) → ℕ
   asksRd b =
       most
       (when (isA Act c && own b) (e + need4 C g) ∷ when (isA Rd c) (e + 4) ∷ when (isA Wr c) (e + need14 C g)
       ∷ when (isA Ref c) (e + C .trfc) ∷ when (isA Mrs c) (e + C .tmod) ∷ when (isA Zq c) (e + need18 C r)
-      ∷ when (resetsNow c r || isA Srx c) (e + 512) ∷ when (isA Srx c) (e + C .txs) ∷ [])
+      ∷ when (resetsNow c r || isA Srx c) (e + 512) ∷ when (isA Srx c) (e + C .txs) ∷ when (isA Pdx c) (e + C .txp)
+      ∷ when (isA Pdx c && slow) (e + C .txpdll) ∷ [])
 
   unfoldable pub asksWr : (bank : ℕ) → ℕ
   asksWr b =
       most
       (when (isA Act c && own b) (e + need4 C g) ∷ when (isA Wr c) (e + 4) ∷ when (isA Rd c) (e + need13 g r)
-      ∷ when (isA Ref c) (e + C .trfc) ∷ when (isA Mrs c) (e + C .tmod) ∷ when (isA Zq c) (e + need18 C r) ∷ when (isA Srx c) (e + C .txs) ∷ [])
+      ∷ when (isA Ref c) (e + C .trfc) ∷ when (isA Mrs c) (e + C .tmod) ∷ when (isA Zq c) (e + need18 C r) ∷ when (isA Srx c) (e + C .txs) ∷ when (isA Pdx c) (e + C .txp) ∷ [])
 
   unfoldable pub asksPre : (bank : ℕ) → ℕ
   asksPre b =
       most
       (when (isA Act c && own b) (e + C .tras) ∷ when (isA Rd c && own b) (e + need10 C g) ∷ when (isA Wr c && own b) (e + need11 C g)
-      ∷ when (isA Ref c) (e + C .trfc) ∷ when (isA Mrs c) (e + C .tmod) ∷ when (isA Zq c) (e + need18 C r) ∷ when (isA Srx c) (e + C .txs) ∷ [])
+      ∷ when (isA Ref c) (e + C .trfc) ∷ when (isA Mrs c) (e + C .tmod) ∷ when (isA Zq c) (e + need18 C r) ∷ when (isA Srx c) (e + C .txs) ∷ when (isA Pdx c) (e + C .txp) ∷ [])
 
   -- what it asks of a REF and of a ZQ, of an MRS, of an SRE
   unfoldable pub asksRef : ℕ
   asksRef =
       most
       (when (shutsNow c r) (start + C .trp)
-      ∷ when (isA Ref c) (e + C .trfc) ∷ when (isA Mrs c) (e + C .tmod) ∷ when (isA Zq c) (e + need18 C r) ∷ when (isA Srx c) (e + C .txs) ∷ [])
+      ∷ when (isA Ref c) (e + C .trfc) ∷ when (isA Mrs c) (e + C .tmod) ∷ when (isA Zq c) (e + need18 C r) ∷ when (isA Srx c) (e + C .txs) ∷ when (isA Pdx c) (e + C .txp) ∷ [])
 
   unfoldable pub asksMrs : ℕ
   asksMrs =
       most
       (when (shutsNow c r) (start + C .trp)
       ∷ when (isA Ref c) (e + C .trfc) ∷ when (isA Mrs c) (e + 4) ∷ when (isA Zq c) (e + need18 C r)
-      ∷ when (isA Rd c) (e + need19 g r) ∷ when (isA Srx c) (e + C .txs) ∷ [])
+      ∷ when (isA Rd c) (e + need19 g r) ∷ when (isA Srx c) (e + C .txs) ∷ when (isA Pdx c) (e + C .txp) ∷ [])
 
   unfoldable pub asksSre : ℕ
   asksSre =
       most
       (when (shutsNow c r) (start + C .trp)
       ∷ when (isA Ref c) (e + C .trfc) ∷ when (isA Mrs c) (e + C .tmod) ∷ when (isA Zq c) (e + need18 C r)
-      ∷ when (isA Rd c) (e + need19 g r) ∷ when (isA Srx c) (e + C .txs) ∷ [])
+      ∷ when (isA Rd c) (e + need19 g r) ∷ when (isA Srx c) (e + C .txs) ∷ when (isA Pdx c) (e + C .txp) ∷ [])
 
   -- "the greater of what was and what the record now asks"
   unfoldable pub waitsNext : Waits → Waits
@@ -131,3 +133,5 @@ waitFor W Des r = 0
 waitFor W Srx r = 0
 waitFor W Low r = 0
 waitFor W Bad r = 0
+waitFor W Pde r = 0
+waitFor W Pdx r = 0

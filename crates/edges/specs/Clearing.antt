@@ -1,7 +1,7 @@
 -- The edge before which no deadline passes.
 -- Assumes nothing.
 use Prim.Native.Nat.{ℕ, _+_, _≤_, _<_}
-use mathlib.Core.Bool.{true, cond}
+use mathlib.Core.Bool.{Bool, true, false, cond}
 use mathlib.Core.List.{List}
 use mathlib.Core.Logic.{_⊎_}
 use mathlib.Core.Path.{_≡_}
@@ -25,6 +25,18 @@ Clears most actat actno shutat shutno lo x =
 -- nor is the debt due before it
 abbrev pub Owing : Debt → (x : ℕ) → Type 0
 Owing D x = (D .sleeps ≡ true) ⊎ (x ≤ D .due)
+
+-- nor is a stay in power-down too long before it
+abbrev pub Staying : (level sleeps : Bool) (at stay x : ℕ) → Type 0
+Staying l z at stay x = (l ≡ true) ⊎ ((z ≡ true) ⊎ (x ≤ at + stay + 1))
+
+-- the edge r: worked out anew where it is asked for, else the one that was
+pub record Anew (yes : Bool) (most : ℕ) (actat actno shutat shutno : List ℕ) (edge : ℕ) (x : Debt) (level : Bool) (at stay clear r : ℕ) : Type 0 where
+  pub due : yes ≡ true → Clears most actat actno shutat shutno edge r
+  pub near : yes ≡ true → r ≤ edge + most + 1
+  pub owed : yes ≡ true → Owing x r
+  pub stays : yes ≡ true → Staying level (x .sleeps) at stay r
+  pub kept : yes ≡ false → r ≡ clear
 
 -- the banks below b have been seen, and x is not far
 pub record ClearTo (most : ℕ) (actat actno shutat shutno : List ℕ) (lo x b : ℕ) : Type 0 where

@@ -14,7 +14,7 @@ use Rattle.records.specs.Record.{records, hasZero}
 use Rattle.chip.specs.declared.Chip.{Chip}
 use Rattle.running.specs.declared.Late.{Late}
 use Rattle.running.specs.Breaks.{statusOf}
-use Rattle.running.specs.Late.{why, sooner}
+use Rattle.running.specs.Late.{why}
 use Rattle.running.specs.Said.{noVerdict, verdictAt, cleanAt, isClean}
 use Rattle.running.specs.Ranges.{limit, lastEdge, isSmall}
 use Rattle.running.specs.Ends.{registersOf, restOf, noEnd}
@@ -27,7 +27,7 @@ use Rattle.edges.specs.declared.Rank.{Rank}
 use Rattle.edges.specs.declared.Folded.{Folded}
 use Rattle.edges.specs.Views.{keptOf, regsOf, writtenOf}
 use Rattle.edges.specs.Next.{counting}
-use Rattle.edges.specs.Says.{next24, next25, refreshed}
+use Rattle.edges.specs.Says.{next24, next25, next28, soonestOf, refreshed}
 use Rattle.edges.specs.Step.{foldOf}
 use Rattle.edges.specs.Ranges.{rankInRange}
 
@@ -56,7 +56,7 @@ unfoldable pub freshActs : Acts
 freshActs = record { at = replicate 4 0; no = replicate 4 0; turn = 0 }
 
 unfoldable pub freshDevice : Device
-freshDevice = record { at = replicate 6 0; no = replicate 6 0; need = replicate 6 0; codes = replicate 4 0; written = replicate 4 false }
+freshDevice = record { at = replicate 9 0; no = replicate 9 0; need = replicate 9 0; codes = replicate 4 0; written = replicate 4 false }
 
 unfoldable pub freshRank : (level : Bool) (due : ℕ) → Rank
 freshRank level due =
@@ -99,7 +99,8 @@ takenOf C n bs =
 
 -- the first deadline that passes after the latest record and before hi; at hi or later where none does
 unfoldable pub nextLate : Chip → Rank → (hi : ℕ) → Late
-nextLate C s hi = sooner (next24 C (s .banks) (s .edge) hi) (next25 (s .debt) (refreshed s) hi)
+nextLate C s hi =
+    soonestOf (next24 C (s .banks) (s .edge) hi) (next25 (s .debt) (refreshed s) hi) (next28 C (s .level) (s .debt .sleeps) (s .device) hi)
 
 -- the break so far, or the deadline that passes up to the end edge, or clean
 unfoldable pub verdictOf : Chip → Rank → (end : ℕ) → Verdict

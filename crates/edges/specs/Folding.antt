@@ -21,7 +21,7 @@ foldedFrom C s n bytes at =
 
 -- from a rank s at one place to n at a later one: n is not broken, and may go on
 pub record Reached (C : Chip) (bytes : List ℕ) (s : Rank) (from : ℕ) (n : Rank) (at : ℕ) : Type 0 where
-  pub fit : Fit C bytes at (n .debt) (trackIn n)
+  pub fit : Fit C bytes at (n .debt) (n .device) (trackIn n)
   pub holds : length (n .waits .holds) ≡ 4
   pub clean : n .first .outcome ≡ 0
   pub broke : n .first .edge ≤ lastEdge

@@ -1,23 +1,25 @@
 -- How a record changes what is kept. c is its command, r the record, e its edge, n its number, g the registers in force at it.
 -- Assumes nothing.
 use Prim.Native.Nat.{ℕ, _+_, _-_, _*_, _%_}
-use mathlib.Core.Bool.{Bool, true, false, cond, _||_}
+use mathlib.Core.Bool.{Bool, true, false, cond, not, _&&_, _||_}
 use mathlib.Core.List.{List}
-use lib.Dec.{leb}
+use lib.Dec.{leb, ltb}
 use lib.ListN.{getD, set}
+use Rattle.laws.specs.Any.{anyOf}
 use Rattle.laws.specs.Eight.{table}
 use Rattle.records.specs.declared.Record.{Record}
 use Rattle.records.specs.declared.Command.{Command}
-use Rattle.records.specs.declared.Command.the-variants.{Mrs, Ref, Pre, Act, Wr, Rd, Zq, Sre, Srx}
+use Rattle.records.specs.declared.Command.the-variants.{Mrs, Ref, Pre, Act, Wr, Rd, Zq, Sre, Srx, Pdx}
 use Rattle.records.specs.Command.{isA, bankIn}
+use Rattle.codes.specs.Codes.{set as set1}
 use Rattle.chip.specs.declared.Chip.{Chip}
 use Rattle.chip.specs.declared.Regs.{Regs}
-use Rattle.running.specs.Next.{need4, need10, need11, resetsNow, shutsNow, startNow, preAll}
+use Rattle.running.specs.Next.{need4, need10, need11, changing, resetsNow, shutsNow, startNow, preAll}
 use Rattle.edges.specs.declared.Banks.{Banks}
 use Rattle.edges.specs.declared.Acts.{Acts}
 use Rattle.edges.specs.declared.Device.{Device}
 use Rattle.edges.specs.declared.Debt.{Debt}
-use Rattle.edges.specs.Views.{REF, MRS, ZQ, SRE, SRX, DLL}
+use Rattle.edges.specs.Views.{REF, MRS, ZQ, SRE, SRX, DLL, CKE, PDX, SLOW}
 use Rattle.edges.specs.Asks.{need13, need14, need18, need19}
 
 -- a place of an array, stored where x holds
@@ -65,6 +67,17 @@ actsNext c e n A =
 
 -- ── The device ──────────────────────────────────────────────────────────────────────────────
 
+-- a bank is open, and none is
+abbrev pub opened : Banks → (bank : ℕ) → Bool
+opened B b = ltb (getD (B .shutno) b 0) (getD (B .actno) b 0)
+
+unfoldable pub noneOpen : Banks → Bool
+noneOpen B = not (anyOf (opened B) 8)
+
+-- an exit now is one of precharge power-down with MR0 A12 = 0: since the entry no bank was opened or closed
+unfoldable pub slowNow : Banks → Device → Bool
+slowNow B D = getD (D .written) 0 false && (not (set1 (getD (D .codes) 0 0) 12) && noneOpen B)
+
 -- something of the latest REF, MRS, ZQ, SRE, SRX, DLL reset
 abbrev pub stamped : Command → Record → List ℕ → (ref mrs zq sre srx dll : ℕ) → List ℕ
 stamped c r xs ref mrs zq sre srx dll =
@@ -72,12 +85,16 @@ stamped c r xs ref mrs zq sre srx dll =
     (setIf (isA Srx c) (setIf (isA Sre c) (setIf (isA Zq c) (setIf (isA Mrs c) (setIf (isA Ref c) xs REF ref) MRS mrs) ZQ zq) SRE sre) SRX srx)
     DLL dll
 
-unfoldable pub deviceNext : Chip → Command → Record → (e n : ℕ) → Device → Device
-deviceNext C c r e n D =
+-- and of the latest change of CKE, power-down exit and slow one
+abbrev pub turnedTo : Command → (slow : Bool) → List ℕ → (cke pdx late : ℕ) → List ℕ
+turnedTo c slow xs cke pdx late = setIf (isA Pdx c && slow) (setIf (isA Pdx c) (setIf (changing c) xs CKE cke) PDX pdx) SLOW late
+
+unfoldable pub deviceNext : Chip → Command → Record → (e n : ℕ) → (slow : Bool) → Device → Device
+deviceNext C c r e n slow D =
     record {
-      at = stamped c r (D .at) e e e e e e;
-      no = stamped c r (D .no) n n n n n n;
-      need = stamped c r (D .need) (C .trfc) 4 (need18 C r) (C .tcke + 1) (C .txs) 512;
+      at = turnedTo c slow (stamped c r (D .at) e e e e e e) e e e;
+      no = turnedTo c slow (stamped c r (D .no) n n n n n n) n n n;
+      need = turnedTo c slow (stamped c r (D .need) (C .trfc) 4 (need18 C r) (C .tcke + 1) (C .txs) 512) (C .tcke) (C .txp) (C .txpdll);
       codes = setIf (isA Mrs c) (D .codes) (bankIn r % 4) (r .a);
       written = setIf (isA Mrs c) (D .written) (bankIn r % 4) true;
     }

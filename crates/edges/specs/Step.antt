@@ -11,7 +11,7 @@ use Rattle.running.specs.Said.{isClean, cleanAt}
 use Rattle.edges.specs.declared.Rank.{Rank}
 use Rattle.edges.specs.Views.{regsOf}
 use Rattle.edges.specs.Asks.{fourBack, waitsNext}
-use Rattle.edges.specs.Next.{startOf, banksNext, actsNext, deviceNext, debtNext}
+use Rattle.edges.specs.Next.{startOf, banksNext, actsNext, slowNow, deviceNext, debtNext}
 use Rattle.edges.specs.Says.{commandIn, saysOf}
 
 -- the registers in force at the record: no RD, WR or ACT is an MRS
@@ -25,6 +25,7 @@ movedOf C s r =
     let e = s .edge + r .step in
     let n = s .count + 1 in
     let g = regsIn s in
+    let slow = slowNow (s .banks) (s .device) in
     record {
       edge = e;
       count = n;
@@ -32,9 +33,9 @@ movedOf C s r =
       level = r .cke;
       debt = debtNext C c e (s .debt);
       banks = banksNext C c r e n g (s .banks);
-      waits = waitsNext C c r e g (startOf C c r e g (s .banks)) (fourBack C (s .acts)) (s .waits);
+      waits = waitsNext C c r e g (startOf C c r e g (s .banks)) (fourBack C (s .acts)) slow (s .waits);
       acts = actsNext c e n (s .acts);
-      device = deviceNext C c r e n (s .device);
+      device = deviceNext C c r e n slow (s .device);
     }
 
 -- "Once broken, later sections are still checked and counted, but verdict, banks, registers and debt stay as they were"

@@ -1,4 +1,4 @@
--- What is kept, as rules 1 to 23 ask for it: the marks of a bank, and those that all banks share.
+-- What is kept, as rules 1 to 30 ask for it: the marks of a bank, and those that all banks share.
 -- Assumes nothing.
 use Prim.Native.Nat.{ℕ, zero, suc, _+_, _-_, _%_}
 use mathlib.Core.Bool.{Bool, true, false, cond, not, _&&_, _||_}
@@ -81,7 +81,7 @@ actsOf C A = actBack C A 0 ∷ actBack C A 1 ∷ actBack C A 2 ∷ actBack C A 3
 
 -- ── The device ──────────────────────────────────────────────────────────────────────────────
 
--- the places of the latest REF, MRS, ZQ, SRE, SRX and DLL reset
+-- the places of the latest REF, MRS, ZQ, SRE, SRX, DLL reset, change of CKE, power-down exit, and slow one
 abbrev pub REF : ℕ
 REF = 0
 
@@ -100,6 +100,15 @@ SRX = 4
 abbrev pub DLL : ℕ
 DLL = 5
 
+abbrev pub CKE : ℕ
+CKE = 6
+
+abbrev pub PDX : ℕ
+PDX = 7
+
+abbrev pub SLOW : ℕ
+SLOW = 8
+
 abbrev pub deviceMark : Device → (place : ℕ) → Mark
 deviceMark D i = markAt (D .at) (D .no) (D .need) i
 
@@ -112,6 +121,9 @@ restsOf D =
       reset = cond (ltb (getD (D .no) DLL 0) (getD (D .no) SRX 0)) (record { at = getD (D .at) SRX 0; num = getD (D .no) SRX 0; need = 512 }) (deviceMark D DLL);
       woke = deviceMark D SRX;
       slept = deviceMark D SRE;
+      turned = deviceMark D CKE;
+      left = deviceMark D PDX;
+      slow = deviceMark D SLOW;
     }
 
 abbrev pub regsOf : Device → Regs
@@ -127,7 +139,7 @@ writtenOf D =
       dll = not (eqb (getD (D .no) DLL 0) 0);
     }
 
--- what rules 4 to 23 look at; now, level, debt and regs they do not
+-- what rules 4 to 30 look at; now, level and debt they do not
 unfoldable pub sharedOf : Chip → Banks → Acts → Device → Shared
 sharedOf C B A D =
     record {
@@ -136,7 +148,7 @@ sharedOf C B A D =
       acts = actsOf C A;
       rests = restsOf D;
       debt = record { sleeps = false; phase = 0; owed = 0 };
-      regs = record { mr0 = 0; mr1 = 0; mr2 = 0; mr3 = 0 };
+      regs = regsOf D;
       written = writtenOf D;
       read = readOf B;
       wrote = wroteOf B;

@@ -7,7 +7,7 @@ use lib.Dec.{eqb, leb, ltb}
 use lib.ListN.{getD, set}
 use Rattle.records.specs.declared.Record.{Record}
 use Rattle.records.specs.declared.Command.{Command}
-use Rattle.records.specs.declared.Command.the-variants.{Mrs, Ref, Pre, Act, Wr, Rd, Zq, Nop, Des, Sre, Srx, Low, Bad}
+use Rattle.records.specs.declared.Command.the-variants.{Mrs, Ref, Pre, Act, Wr, Rd, Zq, Nop, Des, Sre, Srx, Low, Bad, Pde, Pdx}
 use Rattle.chip.specs.declared.Chip.{Chip}
 use Rattle.running.specs.declared.Asks.{Asks}
 use Rattle.running.specs.Next.{resetsNow}
@@ -106,25 +106,29 @@ askedBy C Nop r = 0
 askedBy C Des r = 0
 askedBy C Low r = 0
 askedBy C Bad r = 0
+askedBy C Pde r = 0
+askedBy C Pdx r = C .txp
 askedBy C Act r = 0
 askedBy C Rd r = 0
 askedBy C Wr r = 0
 
--- what it asks of every bank
-abbrev pub floorNext : Chip → Command → Record → (e : ℕ) → Floor → Floor
-floorNext C Ref r e f = raisedFloor f (e + C .trfc)
-floorNext C Zq r e f = raisedFloor f (e + need18 C r)
-floorNext C Mrs r e f = cond (resetsNow Mrs r) (rdFloor (raisedFloor f (e + C .tmod)) (e + 512)) (raisedFloor f (e + C .tmod))
-floorNext C Srx r e f = rdFloor (raisedFloor f (e + C .txs)) (e + 512)
-floorNext C Sre r e f = f
-floorNext C Nop r e f = f
-floorNext C Des r e f = f
-floorNext C Low r e f = f
-floorNext C Bad r e f = f
-floorNext C Act r e f = f
-floorNext C Rd r e f = f
-floorNext C Wr r e f = f
-floorNext C Pre r e f = shutAllFloor f (e + C .trp)
+-- what it asks of every bank; slow: an exit is one of precharge power-down with MR0 A12 = 0
+abbrev pub floorNext : Chip → Command → Record → (slow : Bool) → (e : ℕ) → Floor → Floor
+floorNext C Ref r slow e f = raisedFloor f (e + C .trfc)
+floorNext C Zq r slow e f = raisedFloor f (e + need18 C r)
+floorNext C Mrs r slow e f = cond (resetsNow Mrs r) (rdFloor (raisedFloor f (e + C .tmod)) (e + 512)) (raisedFloor f (e + C .tmod))
+floorNext C Srx r slow e f = rdFloor (raisedFloor f (e + C .txs)) (e + 512)
+floorNext C Sre r slow e f = f
+floorNext C Nop r slow e f = f
+floorNext C Des r slow e f = f
+floorNext C Low r slow e f = f
+floorNext C Bad r slow e f = f
+floorNext C Pde r slow e f = f
+floorNext C Pdx r slow e f = cond slow (rdFloor (raisedFloor f (e + C .txp)) (e + C .txpdll)) (raisedFloor f (e + C .txp))
+floorNext C Act r slow e f = f
+floorNext C Rd r slow e f = f
+floorNext C Wr r slow e f = f
+floorNext C Pre r slow e f = shutAllFloor f (e + C .trp)
 
 -- and of the device
 abbrev pub holdsNext : Chip → Command → Record → (e : ℕ) → List ℕ → List ℕ
@@ -137,6 +141,8 @@ holdsNext C Nop r e h = h
 holdsNext C Des r e h = h
 holdsNext C Low r e h = h
 holdsNext C Bad r e h = h
+holdsNext C Pde r e h = h
+holdsNext C Pdx r e h = heldTo h (e + C .txp) (e + C .txp)
 holdsNext C Act r e h = h
 holdsNext C Rd r e h = h
 holdsNext C Wr r e h = h

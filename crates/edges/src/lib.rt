@@ -25,7 +25,7 @@ pub struct Banks {
     pub shutno: [u32; 8],
 }
 
-// The earliest edges that rules 4 to 21 allow: of each bank for an ACT, for a RD and then for a WR, for a PRE; of the device for a REF, an MRS, a
+// The earliest edges that rules 4 to 21, 29 and 30 allow: of each bank for an ACT, for a RD and then for a WR, for a PRE; of the device for a REF, an MRS, a
 // ZQ and an SRE.
 pub struct Waits {
     pub act: [u64; 8],
@@ -41,12 +41,12 @@ pub struct Acts {
     pub turn: u64,
 }
 
-// The latest REF, MRS, ZQ, SRE, SRX and DLL reset: edge, number, and the clocks that rules 15, 16, 18, 22, 21 and 20 need. The codes of the four
-// registers, and which were written.
+// The latest REF, MRS, ZQ, SRE, SRX, DLL reset, change of CKE, power-down exit, and exit of precharge power-down with MR0 A12 = 0: edge, number,
+// and the clocks that rules 15, 16, 18, 22, 21, 20, 27, 29 and 30 need. The codes of the four registers, and which were written.
 pub struct Device {
-    pub at: [u64; 6],
-    pub no: [u32; 6],
-    pub need: [u32; 6],
+    pub at: [u64; 9],
+    pub no: [u32; 9],
+    pub need: [u32; 9],
     pub codes: [u16; 4],
     pub written: [bool; 4],
 }

@@ -6,8 +6,8 @@ use mathlib.Core.Bool.{Bool, true, false, cond}
 use lib.Dec.{eqb}
 use Rattle.units.proofs.Rounding.{up-most, down-most}
 use Rattle.header.specs.declared.Header.{Header}
-use Rattle.header.specs.Bins.{Bin, bin0, bin1, bin2, bin3, binOf}
-use Rattle.header.specs.Counts.{row, tRCD, tRP, tRC, tRAS, tRRD, tFAW, tCKE, tRTP, tWTR, tWR, tMRD, tMOD, tRFC, tXS, zqLong, zqShort, mostRAS, tREFI}
+use Rattle.header.specs.Bins.{Bin, bin0, bin1, bin2, bin3, binOf, rowOf}
+use Rattle.header.specs.Counts.{row, tRCD, tRP, tRC, tRAS, tRRD, tFAW, tCKE, tRTP, tWTR, tWR, tMRD, tMOD, tRFC, tXS, zqLong, zqShort, mostRAS, tREFI, tXP, tXPDLL, mostDown}
 
 -- what holds of the four rows holds of the row of every bin
 pub by-bin : (P : Bin → Type 0) → P bin0 → P bin1 → P bin2 → P bin3 → (b : ℕ) → P (binOf b)
@@ -57,6 +57,9 @@ pub record Bounds (h : Header) : Type 0 where
   pub short : zqShort h .clocks ≤ 80000
   pub most : mostRAS h .clocks ≤ 70000000
   pub refi : tREFI h .clocks ≤ 7800000
+  pub xp : tXP h .clocks ≤ 7500
+  pub xpdll : tXPDLL h .clocks ≤ 24000
+  pub down : mostDown h .clocks ≤ 70200000
 
 pub bounds : (h : Header) → Bounds h
 bounds h =
@@ -67,6 +70,7 @@ bounds h =
     let faw = choice (h .wide) (r .tFAW2K) (r .tFAW1K) 50000 (t .faw2) (t .faw1) in
     let rfc = choice (h .dense) 160000 110000 160000 (omega arith) (omega arith) in
     let refi = choice (h .hot) 3900000 7800000 7800000 (omega arith) (omega arith) in
+    let xp = choice (eqb (rowOf (h .bin)) 0) 7500 6000 7500 (omega arith) (omega arith) in
     record {
       rcd = omega (arith, up-most (r .tRCD) p);
       rp = omega (arith, up-most (r .tRCD) p);
@@ -86,4 +90,7 @@ bounds h =
       short = omega (arith, up-most 80000 p);
       most = down-most 70000000 p;
       refi = omega (arith, down-most (cond (h .hot) 3900000 7800000) p);
+      xp = omega (arith, up-most (cond (eqb (rowOf (h .bin)) 0) 7500 6000) p);
+      xpdll = omega (arith, up-most 24000 p);
+      down = omega (arith, down-most (cond (h .hot) 3900000 7800000) p);
     }

@@ -1,12 +1,13 @@
 -- The clock counts of a header: 01, "Clock counts", below its table.
 -- Assumes nothing.
-use Prim.Native.Nat.{ℕ, _+_, max}
+use Prim.Native.Nat.{ℕ, _+_, _*_, max}
 use mathlib.Core.Bool.{cond}
+use lib.Dec.{eqb}
 use Rattle.units.specs.declared.Ps.{Ps}
 use Rattle.units.specs.declared.Clocks.{Clocks}
 use Rattle.units.specs.Round.{upOf, downOf}
 use Rattle.header.specs.declared.Header.{Header}
-use Rattle.header.specs.Bins.{Bin, binOf}
+use Rattle.header.specs.Bins.{Bin, binOf, rowOf}
 
 abbrev pub ps : ℕ → Ps
 ps t = record { ps = t }
@@ -91,3 +92,14 @@ mostRAS h = greatest h 70000000
 
 abbrev pub tREFI : Header → Clocks
 tREFI h = greatest h (cond (h .hot) 3900000 7800000)
+
+-- Q-1: "exit to any command tXP (7500 ps in bin 0, 6000 otherwise, at least 3 clocks)", "exit to RD 24000 ps, at least 10 clocks",
+-- "greatest stay nine times tREFI's clocks"
+abbrev pub tXP : Header → Clocks
+tXP h = leastOr h (cond (eqb (rowOf (h .bin)) 0) 7500 6000) 3
+
+abbrev pub tXPDLL : Header → Clocks
+tXPDLL h = leastOr h 24000 10
+
+abbrev pub mostDown : Header → Clocks
+mostDown h = clocks (9 * tREFI h .clocks)

@@ -15,7 +15,7 @@ const TIMES: [[u64; 8]; 4] = [
 const LEAST: [u64; 4] = [1875, 1500, 1250, 1070];
 
 // The row of a bin. A made-up bin above 3 is answered as bin 0.
-fn row(bin: u8) -> usize
+pub(crate) fn row(bin: u8) -> usize
     ensures { λ r. ⌜ r ≡ rowOf bin ⌝ }
     ensures { λ r. ⌜ r < 4 ⌝ }
 {

@@ -1,5 +1,6 @@
 // The clock counts of a header: each time of 01's "Clock counts" in clocks of the header's period.
 use crate::Header;
+use crate::bins::row;
 use crate::bins::time;
 use units::Clocks;
 use units::Ps;
@@ -7,7 +8,7 @@ ghost use mathlib.Core.Path.{_≡_};
 ghost use Prim.Native.Nat.{_+_, _<_};
 ghost use mathlib.Core.Bool.{cond};
 ghost use Rattle.header.specs.Bins.{timeAt};
-ghost use Rattle.header.specs.Counts.{row, least, leastOr, greatest, tRCD, tRP, tRC, tRAS, tRRD, tFAW, tCKE, tRTP, tWTR, tWR, tMRD, tMOD, tRFC, tXS, zqLong, zqShort, mostRAS, tREFI};
+ghost use Rattle.header.specs.Counts.{row, least, leastOr, greatest, tRCD, tRP, tRC, tRAS, tRRD, tFAW, tCKE, tRTP, tWTR, tWR, tMRD, tMOD, tRFC, tXS, zqLong, zqShort, mostRAS, tREFI, tXP, tXPDLL, mostDown};
 ghost use Rattle.header.specs.Contracts.{Counted};
 
 impl Header {
@@ -124,6 +125,29 @@ impl Header {
     {
         let time = choice(self.hot, 3900000, 7800000);
         greatest(self, time)
+    }
+
+    pub fn txp(self) -> Clocks
+        ensures { λ r. ⌜ Counted tXP self r ⌝ }
+    {
+        let time = choice(row(self.bin) == 0, 7500, 6000);
+        least_or(self, time, 3)
+    }
+
+    pub fn txpdll(self) -> Clocks
+        ensures { λ r. ⌜ Counted tXPDLL self r ⌝ }
+    {
+        least_or(self, 24000, 10)
+    }
+
+    // Nine times tREFI's clocks.
+    pub fn mostdown(self) -> Clocks
+        ensures { λ r. ⌜ Counted mostDown self r ⌝ }
+    {
+        let c = self.trefi();
+        Clocks {
+            clocks: 9 * c.clocks,
+        }
     }
 }
 

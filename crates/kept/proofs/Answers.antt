@@ -1,6 +1,7 @@
 -- One answer for each public contract.
 -- Assumes nothing.
 use Prim.Native.Nat.{ℕ, _-_}
+use mathlib.Core.Bool.{Bool}
 use mathlib.Core.List.{List}
 use Rattle.laws.proofs.Unique.{Unique, one-answer}
 use Rattle.answers.specs.declared.Break.{Break}
@@ -15,8 +16,9 @@ use Rattle.running.specs.declared.Written.{Written}
 use Rattle.running.specs.declared.Mark.{Mark}
 use Rattle.running.specs.Marks.{needing}
 use Rattle.answers.specs.Answer.{orElse, lowest}
+use Rattle.running.specs.Down as down
 use Rattle.running.specs.Breaks.{statusOf, wants, barredBy, barredAt, speaksOfAll, rule3, rule23, whenIs, spacings, joined}
-use Rattle.kept.specs.Contracts.{Status, OrElse, SpeaksOfAll, Barred, FirstBarred, Rule3, Joined, Since, Needing, Spacings, LastRules}
+use Rattle.kept.specs.Contracts.{Status, OrElse, SpeaksOfAll, Barred, FirstBarred, Rule3, Joined, Since, Needing, Spacings, LastRules, Rule26, Rule27, ExitRules}
 
 pub since-unique : (e at : ℕ) → Unique (Since e at)
 since-unique e at = one-answer (e - at)
@@ -50,3 +52,12 @@ joined-unique c two three spacing = one-answer (joined c two three spacing)
 
 pub needing-unique : (n : ℕ) (m : Mark) → Unique (Needing n m)
 needing-unique n m = one-answer (needing n m)
+
+pub rule26-unique : (C : Chip) (c : Command) (ks : List Kept) (s : Shared) (e : ℕ) → Unique (Rule26 C c ks s e)
+rule26-unique C c ks s e = one-answer (down.rule26 C c ks s e)
+
+pub rule27-unique : (x : Bool) (e : ℕ) (s : Shared) → Unique (Rule27 x e s)
+rule27-unique x e s = one-answer (down.rule27 x e s)
+
+pub exit-rules-unique : (c : Command) (e : ℕ) (s : Shared) → Unique (ExitRules c e s)
+exit-rules-unique c e s = one-answer (down.exitRules c e s)

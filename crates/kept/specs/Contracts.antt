@@ -18,6 +18,7 @@ use Rattle.running.specs.declared.Mark.{Mark}
 use Rattle.running.specs.declared.Shared.{Shared}
 use Rattle.running.specs.declared.Written.{Written}
 use Rattle.running.specs.Marks.{needing}
+use Rattle.running.specs.Down as down
 use Rattle.running.specs.Breaks.{statusOf, wants, barredBy, barredAt, speaksOfAll, rule3, rule23, whenIs, spacings, joined}
 
 -- `status`
@@ -63,3 +64,15 @@ Spacings chip c r e k s x = x ≡ spacings chip c r e k s
 -- `last_rules`: 22 and 23
 abbrev pub LastRules : (c : Command) (e : ℕ) (s : Shared) (x : Break) → Type 0
 LastRules c e s x = x ≡ whenIs (isA Srx c) 22 e (s .rests .slept) (rule23 c s)
+
+-- `rule26`
+abbrev pub Rule26 : (chip : Chip) (c : Command) (banks : List Kept) (s : Shared) (e : ℕ) (x : Break) → Type 0
+Rule26 chip c banks s e x = x ≡ down.rule26 chip c banks s e
+
+-- `rule27`
+abbrev pub Rule27 : (changes : Bool) (e : ℕ) (s : Shared) (x : Break) → Type 0
+Rule27 changes e s x = x ≡ down.rule27 changes e s
+
+-- `exit_rules`: 29 and 30
+abbrev pub ExitRules : (c : Command) (e : ℕ) (s : Shared) (x : Break) → Type 0
+ExitRules c e s x = x ≡ down.exitRules c e s

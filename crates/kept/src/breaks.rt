@@ -71,6 +71,8 @@ fn wants(c: Command) -> u64
         Command::Srx => 0,
         Command::Low => 0,
         Command::Bad => 0,
+        Command::Pde => 0,
+        Command::Pdx => 0,
     }
 }
 

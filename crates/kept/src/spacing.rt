@@ -34,6 +34,8 @@ pub fn spacings(chip: Chip, c: Command, r: Record, e: u64, k: Kept, s: Shared) -
         Command::Srx => of_srx(e, s),
         Command::Low => Break::Fine,
         Command::Bad => Break::Fine,
+        Command::Pde => Break::Fine,
+        Command::Pdx => Break::Fine,
     }
 }
 

@@ -1,3 +1,4 @@
 pub mod Lent
 pub mod Eight
 pub mod Among
+pub mod Any

@@ -17,6 +17,9 @@ use tally::Found;
 use tally::Placed;
 use tally::Tally;
 
+// The kind of a power-down entry.
+const ENTRY: usize = 17;
+
 pub(crate) fn part(h: Header) {
     value(b"bin", h.bin as u64);
     value(b"density_gb", if h.dense { 2 } else { 1 });
@@ -37,11 +40,12 @@ fn count(name: &[u8], n: u32) {
     value(name, n as u64);
 }
 
-// Each time of the part in clocks. A check grows with the square of a function's calls, so these are three.
+// Each time of the part in clocks. A check grows with the square of a function's calls, so these are four.
 fn clocks(c: Chip) {
     of_a_bank(c);
     of_all_banks(c);
     of_the_device(c);
+    of_power_down(c);
 }
 
 fn of_a_bank(c: Chip) {
@@ -68,6 +72,12 @@ fn of_the_device(c: Chip) {
     count(b"clocks_zqshort", c.zqshort);
     count(b"clocks_most", c.most);
     count(b"clocks_trefi", c.trefi);
+}
+
+fn of_power_down(c: Chip) {
+    count(b"clocks_txp", c.txp);
+    count(b"clocks_txpdll", c.txpdll);
+    count(b"clocks_stay", c.stay);
 }
 
 // A file that was read to its end: its number, its records, the edge before it and its last; whether it begins with a header of its own.
@@ -108,9 +118,9 @@ pub(crate) fn end(t: Tally, records: u32, c: End, header: [u8; 6]) {
 }
 
 // The rows of the glossary, with the count of each one's kind.
-fn rows(counts: [u64; 17]) {
+fn rows(counts: [u64; 19]) {
     let mut i: usize = 0;
-    while i < 24 {
+    while i < 28 {
         let l = glossary::line_at(i, counts);
         row(l);
         i += 1;
@@ -129,10 +139,10 @@ fn row(l: Line) {
     value(b"row_count", l.count);
 }
 
-// CKE before and now, CS, RAS, CAS, WE, A10.
-fn levels(x: [u64; 7]) {
+// CKE before and now, asleep before, CS, RAS, CAS, WE, A10.
+fn levels(x: [u64; 8]) {
     let mut i: usize = 0;
-    while i < 7 {
+    while i < 8 {
         level(x[i]);
         i += 1;
     }
@@ -189,7 +199,7 @@ fn pins(f: Found) {
     value(b"list_cke_before", bit(f.level));
     value(b"list_cke", bit(r.cke));
     value(b"list_pins", r.pins);
-    value(b"list_power_down", bit(f.down));
+    value(b"list_power_down", bit(f.kind == ENTRY));
 }
 
 fn print_banks(banks: [Shown; 8]) {

@@ -15,7 +15,8 @@ use Rattle.chip.specs.declared.Chip.{Chip}
 use Rattle.rules.specs.Past.{Past, edge, number, is, _∈_, greatest}
 use Rattle.rules.specs.Banks.{start}
 use Rattle.rules.specs.Search.{asking}
-use Rattle.rules.specs.Rules.{Row, r4, r6, r7, r9, r10, r11, r12r, r12w, r13, r14, r15, r16, r17, r18, r19, r20, r21, r22, rule1, rule2, rule3, rule5, rule8, rule23, since, fourth, spacing, spaced, checks}
+use Rattle.rules.specs.Rules.{Row, r4, r6, r7, r9, r10, r11, r12r, r12w, r13, r14, r15, r16, r17, r18, r19, r20, r21, r22, r26, r27, r29, r30, rule1, rule2, rule3, rule5, rule8, rule23, since, fourth, spacing, spaced}
+use Rattle.rules.specs.Verdict.{ofRecord, edgeChecks}
 use Rattle.rules.proofs.Generic.{decide, broken-fine, short-fine, fine-kept}
 use Rattle.rules.proofs.Events.{never}
 use Rattle.rules.proofs.Clean.{lowest-fine, is-other, act-not-all}
@@ -44,7 +45,7 @@ module _ (C : Chip) (r : Record) (p : Past) where
 
   -- ── A broken rule's check says so ─────────────────────────────────────────────────────────
 
-  said : {k : ℕ} (g : Record → Past → Break) → Among g (checks C) → Says C k g → (g r p ≡ Fine → ⊥) → BreaksRecord C r p k
+  said : {k : ℕ} (g : Record → Past → Break) → Among (ofRecord g) (edgeChecks C) → Says C k g → (g r p ≡ Fine → ⊥) → BreaksRecord C r p k
   said {k} g i s bad = go (g r p) refl
     where
       go : (x : Break) → g r p ≡ x → BreaksRecord C r p k
@@ -52,7 +53,7 @@ module _ (C : Chip) (r : Record) (p : Past) where
       go (Broken j n m f) z =
           record { check = g; of = i; partner = n; needed = m; found = f; says = z ∙ ap (λ u. Broken u n m f) (s r p j n m f z .0) }
 
-  row-among : (x : Row) → Among (spaced C x) (checks C)
+  row-among : (x : Row) → Among (ofRecord (spaced C x)) (edgeChecks C)
   row-among r4 = search (first, next) depth 30
   row-among r6 = search (first, next) depth 30
   row-among r7 = search (first, next) depth 30
@@ -71,6 +72,10 @@ module _ (C : Chip) (r : Record) (p : Past) where
   row-among r20 = search (first, next) depth 30
   row-among r21 = search (first, next) depth 30
   row-among r22 = search (first, next) depth 30
+  row-among r26 = search (first, next) depth 40
+  row-among r27 = search (first, next) depth 40
+  row-among r29 = search (first, next) depth 40
+  row-among r30 = search (first, next) depth 40
 
   row-bad : (x : Row) → spacing C x .to (r ∷ p) ≡ true → (s : Past) → s ∈ p → spacing C x .from (r ∷ p) s ≡ true → e - edge s < spacing C x .need s
       → spaced C x r p ≡ Fine → ⊥

@@ -10,12 +10,13 @@ use mathlib.Core.List.{[], _∷_}
 use lib.Dec.{eqb, leb}
 use borrow.Author.Tests.{eqb-true, eqb-false, leb-true, leb-false, eq-eqb, ne-eqb}
 use Rattle.records.specs.declared.Record.{Record}
-use Rattle.records.specs.declared.Command.the-variants.{Ref, Sre, Srx}
-use Rattle.rules.specs.Past.{Past, edge, number, is, latest, upTo}
-use Rattle.rules.specs.Deadlines.{asleep, awakeTo, awakeAt, owedTo, owedAt}
+use Rattle.records.specs.declared.Command.the-variants.{Ref, Sre}
+use Rattle.rules.specs.Past.{Past, edge, number, changes, asleep, is, latest, upTo}
+use Rattle.rules.specs.Deadlines.{awakeTo, awakeAt, owedTo, owedAt}
 use Rattle.rules.specs.Verdict.{Apart}
 use Rattle.rules.proofs.Generic.{decide}
-use Rattle.rules.proofs.Events.{never}
+use Rattle.rules.proofs.Events.{never, push}
+use Rattle.rules.proofs.Sleeping.{asleep-by-changes}
 use Rattle.rules.proofs.Edges.{up-to-all, up-to-skip}
 use Rattle.rules.proofs.Debts.{owed-now}
 use Rattle.means.proofs.Partners.{latest-sense, latest-one}
@@ -173,16 +174,10 @@ module _ {T : ℕ} (h : 0 < T) (q : Past) (apart : Apart q) where
 
 -- ── Asleep ──────────────────────────────────────────────────────────────────────────────────
 
-last-tells : (p : Past) → asleep p ≡ is Sre (latest (λ s. is Sre s || is Srx s) p)
+last-tells : (p : Past) → asleep p ≡ is Sre (latest changes p)
 unfolding asleep
 last-tells [] = refl
-last-tells (r ∷ p) = go (is Sre (r ∷ p)) refl (is Srx (r ∷ p)) refl (last-tells p)
-  where
-    go : (x : Bool) → is Sre (r ∷ p) ≡ x → (y : Bool) → is Srx (r ∷ p) ≡ y → asleep p ≡ is Sre (latest (λ s. is Sre s || is Srx s) p)
-        → is Sre (r ∷ p) || (not (is Srx (r ∷ p)) && asleep p) ≡ is Sre (latest (λ s. is Sre s || is Srx s) (r ∷ p))
-    go true a y b ih = rw (a, a)
-    go false a true b ih = rw (a, b, a)
-    go false a false b ih = rw (a, b) ih
+last-tells (r ∷ p) = asleep-by-changes r p ∙ (λ i. cond (changes (r ∷ p)) (is Sre (r ∷ p)) (last-tells p i)) ∙ push (is Sre) (changes (r ∷ p)) (r ∷ p) (latest changes p)
 
 some-sre : (s : Past) → is Sre s ≡ true → 1 ≤ number s
 some-sre [] y = never y refl
@@ -190,8 +185,7 @@ some-sre (r ∷ s) y = omega arith
 
 pub asleep-means : (p : Past) → (asleep p ≡ true) ↔ Asleep p
 asleep-means p =
-    let turn : Past → Bool = λ s. is Sre s || is Srx s in
-    let last = latest turn p in (
-      λ h. let sre = sym (last-tells p) ∙ h in (last, latest-sense turn p (some-sre last sre), sre),
-      λ w. last-tells p ∙ ap (is Sre) (latest-one turn p (w .0) (w .1)) ∙ w .2,
+    let last = latest changes p in (
+      λ h. let sre = sym (last-tells p) ∙ h in (last, latest-sense changes p (some-sre last sre), sre),
+      λ w. last-tells p ∙ ap (is Sre) (latest-one changes p (w .0) (w .1)) ∙ w .2,
     )

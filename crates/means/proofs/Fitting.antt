@@ -5,7 +5,7 @@ use native.Mathlib.Nat.{max-le, mul-le-mul-left}
 use native.Mathlib.Omega.{arith}
 use mathlib.Core.Path.{_≡_, refl}
 use mathlib.Core.Logic.{⊎-elim}
-use mathlib.Core.Bool.{Bool, true, false}
+use mathlib.Core.Bool.{Bool, true, false, cond}
 use mathlib.Core.List.{[], _∷_, tail}
 use lib.Dec.{eqb, leb}
 use Rattle.units.specs.Round.{down}
@@ -13,26 +13,26 @@ use Rattle.units.proofs.Rounding.{down-greatest}
 use Rattle.header.specs.declared.Header.{Header}
 use Rattle.header.proofs.Bounds.{choice, bounds}
 use Rattle.registers.proofs.Lowest.{bit-most}
-use Rattle.codes.specs.Codes.{bits, burst, al, clOfCode}
+use Rattle.codes.specs.Codes.{bits, burst, al, clOfCode, wrOfCode}
 use Rattle.chip.specs.declared.Chip.{Chip}
 use Rattle.chip.specs.declared.Regs.{Regs}
 use Rattle.chip.specs.Chip.{chipOf}
-use Rattle.chip.specs.Latencies.{alOf, clOf, cwlOf, hOf, bOf}
+use Rattle.chip.specs.Latencies.{alOf, clOf, cwlOf, wrOf, hOf, bOf}
 use Rattle.answers.specs.declared.Break.the-variants.{Fine, Broken}
 use Rattle.answers.specs.Back.{Fits}
 use Rattle.records.specs.declared.Record.{Record}
-use Rattle.records.specs.declared.Command.the-variants.{Ref}
+use Rattle.records.specs.declared.Command.the-variants.{Ref, Wr, Rd}
 use Rattle.rules.specs.Past.{Past, edge, number, is, bankOf, addressOf, a10Of, latest, upTo}
-use Rattle.rules.specs.Registers.{regs}
+use Rattle.rules.specs.Registers.{regs, rl, wl, h, wr}
 use Rattle.rules.specs.Banks.{actOn, isIdle, status}
-use Rattle.rules.specs.Rules.{Row, r4, r6, r7, r9, r10, r11, r12r, r12w, r13, r14, r15, r16, r17, r18, r19, r20, r21, r22, spacing}
+use Rattle.rules.specs.Rules.{Row, r4, r6, r7, r9, r10, r11, r12r, r12w, r13, r14, r15, r16, r17, r18, r19, r20, r21, r22, r26, r27, r29, r30, toEntry, spacing}
 use Rattle.rules.specs.Verdict.{Outcome, clean, stop, verdictTo, shown, shownVerdict, Apart}
 use Rattle.rules.proofs.Generic.{decide}
 use Rattle.rules.proofs.Events.{number-le, latest-is}
 use Rattle.rules.proofs.Facts.{burst-bounds}
 use Rattle.means.specs.Partners.{Fourth}
 use Rattle.means.specs.Pairs.{Lacks, code, registers, reset, Pair, other-change, in-the-way, lacking, too-soon, precharging, five-acts, no-refresh}
-use Rattle.means.specs.Means.{How, record-did, limit-passed, debt-grew}
+use Rattle.means.specs.Means.{How, record-did, limit-passed, debt-grew, stay-passed}
 use Rattle.means.proofs.Means.{broken-means, never-fine}
 
 -- ── Latencies ───────────────────────────────────────────────────────────────────────────────
@@ -44,12 +44,20 @@ cl-most k =
     (choice (eqb k 0b1000) 8 _ 12 (omega arith) (choice (eqb k 0b1010) 9 _ 12 (omega arith) (choice (eqb k 0b1100) 10 _ 12 (omega arith)
     (choice (eqb k 0b1110) 11 _ 12 (omega arith) (choice (eqb k 0b0001) 12 0 12 (omega arith) (omega arith))))))))
 
+wr-most : (k : ℕ) → wrOfCode k ≤ 16
+unfolding wrOfCode
+wr-most k =
+    choice (eqb k 0b000) 16 _ 16 (omega arith) (choice (eqb k 0b001) 5 _ 16 (omega arith) (choice (eqb k 0b010) 6 _ 16 (omega arith)
+    (choice (eqb k 0b011) 7 _ 16 (omega arith) (choice (eqb k 0b100) 8 _ 16 (omega arith) (choice (eqb k 0b101) 10 _ 16 (omega arith)
+    (choice (eqb k 0b110) 12 _ 16 (omega arith) (omega arith)))))))
+
 record Latencies (g : Regs) (a : ℕ) : Type 0 where
   cl-low : clOf g ≤ 12
   al-low : alOf g ≤ 12
   cwl-low : cwlOf g ≤ 12
   h-low : hOf g ≤ 4
   b-low : bOf g a ≤ 4
+  wr-low : wrOf g ≤ 16
 
 latencies : (g : Regs) (a : ℕ) → Latencies g a
 unfolding al hOf
@@ -60,6 +68,7 @@ latencies g a =
       cwl-low = omega arith;
       h-low = choice (eqb (burst (g .mr0)) 2) 2 4 4 (omega arith) (omega arith);
       b-low = burst-bounds g a .1;
+      wr-low = wr-most _;
     }
 
 -- ── Clocks ──────────────────────────────────────────────────────────────────────────────────
@@ -82,6 +91,9 @@ record Low (C : Chip) : Type 0 where
   long : C .zqlong ≤ 320000
   short : C .zqshort ≤ 320000
   most : C .most ≤ 320000
+  xp : C .txp ≤ 320000
+  xpdll : C .txpdll ≤ 320000
+  stay : C .stay ≤ 320000
 
 low : (h : Header) → 1070 ≤ h .period .ps → Low (chipOf h)
 unfolding chipOf
@@ -89,6 +101,10 @@ low h least =
     let b = bounds h in
     let p = h .period .ps in
     let limit = down-greatest 70000000 p (omega arith) .not-longer in
+    let refi : (x : Bool) → down (cond x 3900000 7800000) p * 1070 ≤ down (cond x 3900000 7800000) p * p = λ x. mul-le-mul-left (down (cond x 3900000 7800000) p) least in
+    let interval : (x : Bool) → down (cond x 3900000 7800000) p * p ≤ 7800000 = λ x.
+    let l = down-greatest (cond x 3900000 7800000) p (omega arith) .not-longer in
+    omega (arith, choice x 3900000 7800000 7800000 (omega arith) (omega arith)) in
     record {
       rcd = omega (arith, b .rcd);
       rp = omega (arith, b .rp);
@@ -106,9 +122,22 @@ low h least =
       long = omega (arith, b .long);
       short = omega (arith, b .short);
       most = omega (arith, limit, mul-le-mul-left (down 70000000 p) least);
+      xp = omega (arith, b .xp);
+      xpdll = omega (arith, b .xpdll);
+      stay = omega (arith, refi (h .hot), interval (h .hot));
     }
 
 module _ (C : Chip) (L : Low C) where
+  entry-most : (s : Past) → toEntry C s ≤ 320100
+  unfolding toEntry
+  entry-most s =
+      let l = latencies (regs s) 0 in
+      choice (is Rd s) (rl s + 5) _ 320100 (omega (arith, l .al-low, l .cl-low))
+      (choice (is Wr s) _ (C .tmod) 320100
+      (choice (a10Of s) (wl s + h s + wr s + 1) (wl s + h s + C .twr) 320100
+      (omega (arith, l .al-low, l .cwl-low, l .h-low, l .wr-low)) (omega (arith, L .wr, l .al-low, l .cwl-low, l .h-low)))
+      (omega (arith, L .wait)))
+
   need-most : (x : Row) (s : Past) → spacing C x .need s ≤ 320100
   need-most r4 s = max-le (omega (arith, L .rcd)) (omega arith)
   need-most r6 s = omega (arith, L .rc)
@@ -128,8 +157,12 @@ module _ (C : Chip) (L : Low C) where
   need-most r20 s = omega arith
   need-most r21 s = omega (arith, L .xs)
   need-most r22 s = omega (arith, L .cke)
+  need-most r26 s = entry-most s
+  need-most r27 s = omega (arith, L .cke)
+  need-most r29 s = omega (arith, L .xp)
+  need-most r30 s = omega (arith, L .xpdll)
 
-  name-most : (x : Row) → spacing C x .name ≤ 22
+  name-most : (x : Row) → spacing C x .name ≤ 30
   name-most r4 = omega arith
   name-most r6 = omega arith
   name-most r7 = omega arith
@@ -148,17 +181,21 @@ module _ (C : Chip) (L : Low C) where
   name-most r20 = omega arith
   name-most r21 = omega arith
   name-most r22 = omega arith
+  name-most r26 = omega arith
+  name-most r27 = omega arith
+  name-most r29 = omega arith
+  name-most r30 = omega arith
 
   -- ── Pairs ─────────────────────────────────────────────────────────────────────────────────
 
   -- what a broken rule tells, of a recording of so many records
   record Told (records rule partner needed found : ℕ) : Type 0 where
-    by-rule : rule ≤ 25
+    by-rule : rule ≤ 30
     by-partner : partner ≤ records
     by-needed : needed ≤ 320100
     by-found : found ≤ 320100
 
-  told : {n k x m f : ℕ} → k ≤ 25 → x ≤ n → m ≤ 320100 → f ≤ 320100 → Told n k x m f
+  told : {n k x m f : ℕ} → k ≤ 30 → x ≤ n → m ≤ 320100 → f ≤ 320100 → Told n k x m f
   told a b c d = record { by-rule = a; by-partner = b; by-needed = c; by-found = d }
 
   latest-number : (kind : Past → Bool) (p : Past) → number (latest kind p) ≤ number p
@@ -215,6 +252,11 @@ module _ (C : Chip) (L : Low C) where
     told (omega arith)
         (omega (arith, w .partner-is, latest-number (actOn (w .bank)) (upTo (t - 1) q), up-to-number (t - 1) q))
         (omega (arith, w .needed-is, L .most)) (omega (arith, w .found-is, L .most)),
+  )
+  how-told {q = q} {t = t} (stay-passed e w) = (
+    omega arith,
+    told (omega arith) (omega (arith, w .partner-is, number-le (w .latest-of .event), up-to-number (t - 1) q))
+        (omega (arith, w .needed-is, L .stay)) (omega (arith, w .found-is, L .stay)),
   )
   how-told {q = q} {t = t} (debt-grew e w) = (
     omega arith,

@@ -8,7 +8,8 @@ use Rattle.answers.specs.declared.Break.the-variants.{Broken}
 use Rattle.records.specs.declared.Record.{Record}
 use Rattle.chip.specs.declared.Chip.{Chip}
 use Rattle.rules.specs.Past.{Past}
-use Rattle.rules.specs.Rules.{Row, rule1, rule2, rule3, rule5, rule8, rule23, spacing, spaced, checks}
+use Rattle.rules.specs.Rules.{Row, rule1, rule2, rule3, rule5, rule8, rule23, spacing, spaced}
+use Rattle.rules.specs.Verdict.{ofRecord, edgeChecks}
 use Rattle.means.specs.Pairs.{Pair, other-change, in-the-way, lacking, too-soon, precharging, five-acts, no-refresh}
 use Rattle.means.proofs.Partners.{row-pair}
 use Rattle.means.proofs.Pairs.{pair1, pair2, pair3, pair5, pair8, pair23}
@@ -42,7 +43,7 @@ module _ (C : Chip) where
   -- rule k is broken by the record r after the past p: one of the checks says so
   pub record BreaksRecord (r : Record) (p : Past) (k : ℕ) : Type 0 where
     pub check : Record → Past → Break
-    pub of : Among check (checks C)
+    pub of : Among (ofRecord check) (edgeChecks C)
     pub partner : ℕ
     pub needed : ℕ
     pub found : ℕ

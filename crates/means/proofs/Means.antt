@@ -14,17 +14,16 @@ use Rattle.answers.specs.declared.Break.the-variants.{Fine, Broken}
 use Rattle.records.specs.declared.Record.{Record}
 use Rattle.chip.specs.declared.Chip.{Chip}
 use Rattle.rules.specs.Past.{Past, edge, number, _∈_, here, there}
-use Rattle.rules.specs.Rules.{checks}
-use Rattle.rules.specs.Deadlines.{rule24, rule25}
+use Rattle.rules.specs.Deadlines.{rule24, rule25, rule28}
 use Rattle.rules.specs.Verdict.{Outcome, clean, stop, keep, told, Check, ofRecord, deadline, recordSays, checkSays, edgeChecks, brokenAt, verdictTo, Apart}
 use Rattle.rules.proofs.Generic.{edge-le}
 use Rattle.rules.proofs.Numbered.{stop-clean}
 use Rattle.rules.proofs.Sense.{verdict-next, skip-to, clean-iff, stop-at, stop-after, earliest}
-use Rattle.means.specs.Breaks.{BreaksAt, by-record, by-limit, by-debt}
-use Rattle.means.specs.Means.{How, record-did, limit-passed, debt-grew, Broken-means}
+use Rattle.means.specs.Breaks.{BreaksAt, by-record, by-limit, by-debt, by-stay}
+use Rattle.means.specs.Means.{How, record-did, limit-passed, debt-grew, stay-passed, Broken-means}
 use Rattle.means.proofs.Breaks.{broken-by, says-so}
-use Rattle.means.proofs.Passing.{pair24, late-bad, pair25, owing-bad}
-use Rattle.means.proofs.Order.{broken-never, broken-clean, among-records, among-rest, broken-least}
+use Rattle.means.proofs.Passing.{pair24, late-bad, pair25, owing-bad, pair28, stay-bad}
+use Rattle.means.proofs.Order.{broken-never, broken-clean, broken-least}
 
 module _ (C : Chip) (q : Past) (apart : Apart q) where
   -- ── An edge ───────────────────────────────────────────────────────────────────────────────
@@ -68,7 +67,7 @@ module _ (C : Chip) (q : Past) (apart : Apart q) where
       let w = says-so C r p b in
       record {
         check = ofRecord (w .check);
-        of = among-records (deadline (rule24 C) ∷ deadline (rule25 C) ∷ []) (w .of);
+        of = w .of;
         num = number (r ∷ p);
         partner = w .partner;
         needed = w .needed;
@@ -78,9 +77,11 @@ module _ (C : Chip) (q : Past) (apart : Apart q) where
             ∙ ap (λ u. stop u (number (r ∷ p)) (Broken k (w .partner) (w .needed) (w .found))) e;
       }
   says-there {t} (by-limit n l x) =
-      by-the-deadline (rule24 C) (among-rest (checks C) first) (λ j a b c h. pair24 C q t j a b c h .0) (late-bad C q t n l x)
+      by-the-deadline (rule24 C) (search (first, next) depth 40) (λ j a b c h. pair24 C q t j a b c h .0) (late-bad C q t n l x)
   says-there {t} (by-debt x) =
-      by-the-deadline (rule25 C) (among-rest (checks C) (next first)) (λ j a b c h. pair25 C q t j a b c h .0) (owing-bad C q t x)
+      by-the-deadline (rule25 C) (search (first, next) depth 40) (λ j a b c h. pair25 C q t j a b c h .0) (owing-bad C q t x)
+  says-there {t} (by-stay x) =
+      by-the-deadline (rule28 C) (search (first, next) depth 40) (λ j a b c h. pair28 C q t j a b c h .0) (stay-bad C q t x)
 
   none-broken : (t j : ℕ) → brokenAt C q t ≡ clean → BreaksAt C q t j → ⊥
   none-broken t j h b = let w = says-there b in stop-clean (sym (w .says) ∙ broken-clean C (w .check) q t h (w .of))
@@ -104,6 +105,7 @@ module _ (C : Chip) (q : Past) (apart : Apart q) where
   breaks-how (record-did {r = r} {p = p} i e l w) = by-record i e (broken-by C r p w)
   breaks-how (limit-passed e w) = by-limit (w .bank) (w .below) (w .passed)
   breaks-how (debt-grew e w) = by-debt (w .owes)
+  breaks-how (stay-passed e w) = by-stay (w .event, w .latest-of, w .entered, w .passed)
 
   -- a broken verdict
   pub broken-means : (end t n k x m f : ℕ) → verdictTo C q end ≡ stop t n (Broken k x m f) → Broken-means C q end t n k x m f

@@ -14,14 +14,14 @@ use Rattle.answers.specs.declared.Break.the-variants.{Fine, Broken}
 use Rattle.records.specs.declared.Record.{Record}
 use Rattle.chip.specs.declared.Chip.{Chip}
 use Rattle.rules.specs.Past.{Past, edge, number, _∈_, here, there}
-use Rattle.rules.specs.Rules.{Row, r4, r6, r7, r9, r10, r11, r12r, r12w, r13, r14, r15, r16, r17, r18, r19, r20, r21, r22, spacing, spaced}
-use Rattle.rules.specs.Deadlines.{rule24, rule25}
+use Rattle.rules.specs.Rules.{Row, r4, r6, r7, r9, r10, r11, r12r, r12w, r13, r14, r15, r16, r17, r18, r19, r20, r21, r22, r26, r27, r29, r30, spacing, spaced}
+use Rattle.rules.specs.Deadlines.{rule24, rule25, rule28}
 use Rattle.rules.specs.Verdict.{Outcome, clean, stop, keep, told, Check, ofRecord, deadline, recordSays, checkSays, firstOf, ofRecords, edgeChecks, brokenAt}
 use Rattle.rules.proofs.Generic.{decide, broken-fine}
 use Rattle.rules.proofs.Numbered.{stop-clean, keep-clean}
-use Rattle.means.specs.Means.{How, record-did, limit-passed, debt-grew}
+use Rattle.means.specs.Means.{How, record-did, limit-passed, debt-grew, stay-passed}
 use Rattle.means.proofs.Least.{Says, says1, says2, says3, says5, says8, says23, says-row}
-use Rattle.means.proofs.Passing.{pair24, pair25}
+use Rattle.means.proofs.Passing.{pair24, pair25, pair28}
 
 -- ── What one check says ─────────────────────────────────────────────────────────────────────
 
@@ -80,15 +80,6 @@ pub broken-clean : (C : Chip) (c : Check) (p : Past) (t : ℕ) → brokenAt C p 
 unfolding brokenAt
 broken-clean C c p t h i = first-clean p t i h
 
--- among the rules that a record breaks, and behind them
-pub among-records : {g : Record → Past → Break} {fs : List (Record → Past → Break)} (cs : List Check) → Among g fs → Among (ofRecord g) (ofRecords fs cs)
-among-records cs first = first
-among-records cs (next i) = next (among-records cs i)
-
-pub among-rest : {c : Check} {cs : List Check} (fs : List (Record → Past → Break)) → Among c cs → Among c (ofRecords fs cs)
-among-rest [] i = i
-among-rest (f ∷ fs) i = next (among-rest fs i)
-
 -- ── By number ───────────────────────────────────────────────────────────────────────────────
 
 module _ (C : Chip) (q : Past) where
@@ -113,6 +104,12 @@ module _ (C : Chip) (q : Past) where
       let d = told-from t 0 (rule25 C q t) u n j x m f h in
       let w = pair25 C q t j x m f (d .0) in
       (w .0, debt-grew (d .1) (w .1))
+
+  of-stay : Speaks 28 (deadline (rule28 C))
+  of-stay t u n j x m f h =
+      let d = told-from t 0 (rule28 C q t) u n j x m f h in
+      let w = pair28 C q t j x m f (d .0) in
+      (w .0, stay-passed (d .1) (w .1))
 
   -- the checks speak of rules from k on, by number
   data Ordered : ℕ → List Check → Type 0 where
@@ -150,7 +147,12 @@ module _ (C : Chip) (q : Past) where
       (also 23 refl (of-record (says23 C))
       (also 24 refl of-limit
       (also 25 refl of-debt
-      none)))))))))))))))))))))))))
+      (also 26 refl (row r26)
+      (also 27 refl (row r27)
+      (also 28 refl of-stay
+      (also 29 refl (row r29)
+      (also 30 refl (row r30)
+      none))))))))))))))))))))))))))))))
 
   module _ (t : ℕ) where
     -- no check of the list breaks a rule below k

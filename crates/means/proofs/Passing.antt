@@ -1,22 +1,25 @@
--- Rules 24 and 25 at an edge say that they are broken exactly where they are, and name the pair that 01 names.
+-- Rules 24, 25 and 28 at an edge say that they are broken exactly where they are, and name the pair that 01 names.
 -- Assumes nothing.
-use Prim.Native.Nat.{ℕ, _+_, _-_, _<_}
-use mathlib.Core.Path.{_≡_, refl, sym, _∙_}
-use mathlib.Core.Bool.{Bool, true, false, cond}
+use Prim.Native.Nat.{ℕ, _+_, _-_, _≤_, _<_}
+use native.Mathlib.Omega.{arith}
+use mathlib.Core.Path.{_≡_, refl, sym, ap, _∙_}
+use mathlib.Core.Bool.{Bool, true, false, cond, _&&_}
+use mathlib.Core.List.{[], _∷_}
 use lib.Dec.{eqb, leb}
 use borrow.Author.Tests.{eqb-true, eq-eqb, leb-true, le-leb}
 use Rattle.answers.specs.declared.Bank.{Bank}
 use Rattle.answers.specs.declared.Break.the-variants.{Fine, Broken}
-use Rattle.records.specs.declared.Command.the-variants.{Ref}
+use Rattle.records.specs.declared.Command.the-variants.{Ref, Pde}
 use Rattle.chip.specs.declared.Chip.{Chip}
-use Rattle.rules.specs.Past.{Past, edge, number, is, latest, upTo}
+use Rattle.rules.specs.Past.{Past, edge, number, changes, is, latest, upTo}
 use Rattle.rules.specs.Banks.{actOn, isIdle, actNum, status}
-use Rattle.rules.specs.Deadlines.{over, late, rule24, rule25, owedAt}
+use Rattle.rules.specs.Deadlines.{over, late, stayed, rule24, rule25, rule28, owedAt}
+use Rattle.rules.specs.Down.{turned}
 use Rattle.rules.proofs.Generic.{broken-fine}
 use Rattle.rules.proofs.Events.{never}
 use Rattle.rules.proofs.Clean.{lowest-fine}
-use Rattle.means.specs.Passing.{Over, Late, Late-pair, Owing, Debt-pair}
-use Rattle.means.proofs.Partners.{fine-broken, Lowest, lowest-sense, status-cases, act-number}
+use Rattle.means.specs.Passing.{Over, Late, Late-pair, Owing, Debt-pair, Stayed, Stay-pair}
+use Rattle.means.proofs.Partners.{fine-broken, latest-sense, latest-one, Lowest, lowest-sense, status-cases, act-number}
 
 over-is : (C : Chip) (b : ℕ) (p : Past) (u t : ℕ)
     → over (C .most) (status C b p u) t ≡ cond (isIdle (status C b p u)) false (eqb (edge (latest (actOn b) p) + C .most + 1) t)
@@ -78,3 +81,36 @@ module _ (C : Chip) (q : Past) (t : ℕ) where
 
   pub owing-bad : Owing C q t → rule25 C q t ≡ Fine → ⊥
   owing-bad w h = broken-fine (rw (le-leb 17 (owedAt (C .trefi) (upTo t q) t) w) at h)
+
+  some-entry : (s : Past) → is Pde s ≡ true → 1 ≤ number s
+  some-entry [] y = never y refl
+  some-entry (r ∷ s) y = omega arith
+
+  pub pair28 : (k n m f : ℕ) → rule28 C q t ≡ Broken k n m f → (k ≡ 28) × Stay-pair C q t n m f
+  pair28 k n m f h = go (is Pde s) refl (eqb (edge s + C .stay + 1) t) refl h
+    where
+      s : Past
+      s = turned (upTo (t - 1) q)
+
+      go : (x : Bool) → is Pde s ≡ x → (y : Bool) → eqb (edge s + C .stay + 1) t ≡ y
+          → cond (x && y) (Broken 28 (number s) (C .stay) (C .stay + 1)) Fine ≡ Broken k n m f → (k ≡ 28) × Stay-pair C q t n m f
+      go true a true b g = (
+        cc,
+        record {
+          event = s;
+          latest-of = latest-sense changes (upTo (t - 1) q) (some-entry s a);
+          entered = a;
+          passed = eqb-true _ _ b;
+          partner-is = cc;
+          needed-is = cc;
+          found-is = cc;
+        },
+      )
+      go true a false b g = fine-broken g
+      go false a y b g = fine-broken g
+
+  pub stay-bad : Stayed C q t → rule28 C q t ≡ Fine → ⊥
+  stay-bad w h =
+      let e = latest-one changes (upTo (t - 1) q) (w .0) (w .1) in
+      let g : stayed (C .stay) (w .0) t ≡ Fine = ap (λ s. stayed (C .stay) s t) (sym e) ∙ h in
+      broken-fine (rw (w .2, eq-eqb (edge (w .0) + C .stay + 1) t (w .3)) at g)

@@ -1,4 +1,4 @@
--- What it is to break a rule: at a record by rules 1 to 23, at an edge by any.
+-- What it is to break a rule: at a record, and at an edge by any.
 -- Assumes nothing.
 use Prim.Native.Nat.{ℕ, _-_, _<_}
 use mathlib.Core.Path.{_≡_}
@@ -12,7 +12,7 @@ use Rattle.rules.specs.Banks.{start}
 use Rattle.rules.specs.Rules.{Row, spacing}
 use Rattle.means.specs.Partners.{Latest, Fourth}
 use Rattle.means.specs.Pairs.{speaksOf, mayFind, Lacks, Closing-kind}
-use Rattle.means.specs.Passing.{Late, Owing}
+use Rattle.means.specs.Passing.{Late, Owing, Stayed}
 
 module _ (C : Chip) (r : Record) (p : Past) where
   -- the record r after the past p breaks the rule
@@ -20,7 +20,7 @@ module _ (C : Chip) (r : Record) (p : Past) where
     breaks1 : is Bad (r ∷ p) ≡ true → Breaks 1
     breaks2 : (bank : ℕ) → bank < 8 → speaksOf C r p bank ≡ true → mayFind C r p bank ≡ false → Breaks 2
     breaks3 : {found : ℕ} → Lacks C r p found → Breaks 3
-    -- 4, 6, 7 and 9 to 22: fewer clocks since some event than it needs
+    -- 4, 6, 7, 9 to 22, 26, 27, 29 and 30: fewer clocks since some event than it needs
     breaksRow :
         (x : Row) → spacing C x .to (r ∷ p) ≡ true → (s : Past) → s ∈ p → spacing C x .from (r ∷ p) s ≡ true
         → edge (r ∷ p) - edge s < spacing C x .need s → Breaks (spacing C x .name)
@@ -36,3 +36,4 @@ module _ (C : Chip) (q : Past) where
     by-record : {r : Record} {p : Past} {k : ℕ} → r ∷ p ∈ q → edge (r ∷ p) ≡ t → Breaks C r p k → BreaksAt t k
     by-limit : (bank : ℕ) → bank < 8 → Late C q t bank → BreaksAt t 24
     by-debt : Owing C q t → BreaksAt t 25
+    by-stay : Stayed C q t → BreaksAt t 28

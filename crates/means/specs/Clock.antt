@@ -3,11 +3,11 @@
 -- Assumes nothing.
 use Prim.Native.Nat.{ℕ, _+_, _-_, _%_}
 use mathlib.Core.Path.{_≡_}
-use mathlib.Core.Bool.{Bool, true, cond, not, _&&_, _||_}
+use mathlib.Core.Bool.{Bool, true, cond, not, _&&_}
 use lib.Dec.{eqb}
-use Rattle.records.specs.declared.Command.the-variants.{Ref, Sre, Srx}
-use Rattle.rules.specs.Past.{Past, edge, is, has, upTo}
-use Rattle.rules.specs.Deadlines.{asleep, awakeAt, owedAt}
+use Rattle.records.specs.declared.Command.the-variants.{Ref, Sre}
+use Rattle.rules.specs.Past.{Past, edge, changes, asleep, is, has, upTo}
+use Rattle.rules.specs.Deadlines.{awakeAt, owedAt}
 use Rattle.means.specs.Partners.{Latest}
 
 -- the awake clock at edge t of the recording q
@@ -18,11 +18,11 @@ awake q t = awakeAt (upTo t q) t
 abbrev pub owed : (T : ℕ) → Past → (t : ℕ) → ℕ
 owed T q t = owedAt T (upTo t q) t
 
--- the latest SRE or SRX of p is an SRE
+-- the latest change of CKE in p is an SRE
 abbrev pub Asleep : Past → Type 0
-Asleep p = (s : Past) × Latest (λ t. is Sre t || is Srx t) p s × (is Sre s ≡ true)
+Asleep p = (s : Past) × Latest changes p s × (is Sre s ≡ true)
 
--- the edge behind t stands "after SRE up to and including SRX": up to t the latest of the two was an SRE
+-- the edge behind t stands "after SRE up to and including SRX": up to t the latest change of CKE was an SRE
 abbrev pub sleeps : Past → (t : ℕ) → Bool
 sleeps q t = asleep (upTo t q)
 

@@ -17,7 +17,7 @@ use records::rank_of;
 ghost use mathlib.Core.Path.{_≡_};
 ghost use Prim.Native.Nat.{_+_, _≤_, max};
 ghost use Rattle.records.specs.Command.{isA};
-ghost use Rattle.records.specs.declared.Command.the-variants.{Ref, Mrs, Zq};
+ghost use Rattle.records.specs.declared.Command.the-variants.{Ref, Mrs, Zq, Srx, Pdx};
 ghost use Rattle.running.specs.Next as was;
 ghost use Rattle.running.specs.Ranges.{Small, lastEdge, farEdge};
 ghost use Rattle.edges.specs.Asks as asks;
@@ -51,6 +51,15 @@ fn held(chip: Chip, c: Command, r: Record, e: u64, mrs: u32, x: u64) -> u64
     )
 }
 
+// What an SRX and a power-down exit ask, or x if that is later.
+fn woken(chip: Chip, c: Command, e: u64, x: u64) -> u64
+    requires { ⌜ e ≤ farEdge ⌝ }
+    ensures { λ y. ⌜ y ≡ max (asks.when (isA Srx c) (e + chip .txs)) (max (asks.when (isA Pdx c) (e + chip .txp)) x) ⌝ }
+{
+    let k = rank_of(c);
+    ask(k == 10, e, chip.txs, ask(k == 14, e, chip.txp, x))
+}
+
 pub(crate) fn asks_act(
     chip: Chip,
     c: Command,
@@ -59,17 +68,18 @@ pub(crate) fn asks_act(
     g: Regs,
     start: u64,
     four: u64,
+    slow: bool,
     b: usize,
 ) -> u64
     requires { ⌜ e ≤ lastEdge ⌝ }
     requires { ⌜ start ≤ farEdge ⌝ }
-    ensures { λ x. ⌜ x ≡ asks.asksAct chip c r e g start four b ⌝ }
+    ensures { λ x. ⌜ x ≡ asks.asksAct chip c r e g start four slow b ⌝ }
 {
     let k = rank_of(c);
     let own = (r.bank % 8) as usize == b;
     let a10 = r.a / 1024 % 2 == 1;
     let closes = ((k == 2) & (a10 | own)) | (((k == 5) | (k == 4)) & (a10 & own));
-    let woke = ask(k == 10, e, chip.txs, 0);
+    let woke = woken(chip, c, e, 0);
     let rest = held(chip, c, r, e, chip.tmod, woke);
     let all = ask(k == 3, e, chip.trrd, most_of(if_so(k == 3, four), rest));
     ask(
@@ -88,18 +98,20 @@ pub(crate) fn asks_rd(
     g: Regs,
     start: u64,
     four: u64,
+    slow: bool,
     b: usize,
 ) -> u64
     requires { ⌜ Small chip ⌝ }
     requires { ⌜ e ≤ lastEdge ⌝ }
     requires { ⌜ start ≤ farEdge ⌝ }
-    ensures { λ x. ⌜ x ≡ asks.asksRd chip c r e g start four b ⌝ }
+    ensures { λ x. ⌜ x ≡ asks.asksRd chip c r e g start four slow b ⌝ }
 {
     let k = rank_of(c);
     let own = (r.bank % 8) as usize == b;
     let n4 = need4(chip.trcd, chip::al_of(g));
     let resets = resets_now(c, r);
-    let woke = ask(resets | (k == 10), e, 512, ask(k == 10, e, chip.txs, 0));
+    let late = ask((k == 14) & slow, e, chip.txpdll, 0);
+    let woke = ask(resets | (k == 10), e, 512, woken(chip, c, e, late));
     let rest = held(chip, c, r, e, chip.tmod, woke);
     let turn = ask(k == 4, e, need14(chip, g), rest);
     ask((k == 3) & own, e, n4, ask(k == 5, e, 4, turn))
@@ -113,16 +125,17 @@ pub(crate) fn asks_wr(
     g: Regs,
     start: u64,
     four: u64,
+    slow: bool,
     b: usize,
 ) -> u64
     requires { ⌜ e ≤ lastEdge ⌝ }
     requires { ⌜ start ≤ farEdge ⌝ }
-    ensures { λ x. ⌜ x ≡ asks.asksWr chip c r e g start four b ⌝ }
+    ensures { λ x. ⌜ x ≡ asks.asksWr chip c r e g start four slow b ⌝ }
 {
     let k = rank_of(c);
     let own = (r.bank % 8) as usize == b;
     let n4 = need4(chip.trcd, chip::al_of(g));
-    let woke = ask(k == 10, e, chip.txs, 0);
+    let woke = woken(chip, c, e, 0);
     let rest = held(chip, c, r, e, chip.tmod, woke);
     let turn = ask(k == 5, e, need13(g, r.a), rest);
     ask((k == 3) & own, e, n4, ask(k == 4, e, 4, turn))
@@ -136,16 +149,17 @@ pub(crate) fn asks_pre(
     g: Regs,
     start: u64,
     four: u64,
+    slow: bool,
     b: usize,
 ) -> u64
     requires { ⌜ Small chip ⌝ }
     requires { ⌜ e ≤ lastEdge ⌝ }
     requires { ⌜ start ≤ farEdge ⌝ }
-    ensures { λ x. ⌜ x ≡ asks.asksPre chip c r e g start four b ⌝ }
+    ensures { λ x. ⌜ x ≡ asks.asksPre chip c r e g start four slow b ⌝ }
 {
     let k = rank_of(c);
     let own = (r.bank % 8) as usize == b;
-    let woke = ask(k == 10, e, chip.txs, 0);
+    let woke = woken(chip, c, e, 0);
     let rest = held(chip, c, r, e, chip.tmod, woke);
     let wr = ask((k == 4) & own, e, need11(chip, g), rest);
     let rd = ask((k == 5) & own, e, need10(chip, g), wr);
@@ -170,13 +184,14 @@ pub(crate) fn asks_ref(
     g: Regs,
     start: u64,
     four: u64,
+    slow: bool,
 ) -> u64
     requires { ⌜ e ≤ lastEdge ⌝ }
     requires { ⌜ start ≤ farEdge ⌝ }
-    ensures { λ x. ⌜ x ≡ asks.asksRef chip c r e g start four ⌝ }
+    ensures { λ x. ⌜ x ≡ asks.asksRef chip c r e g start four slow ⌝ }
 {
     let k = rank_of(c);
-    let woke = ask(k == 10, e, chip.txs, 0);
+    let woke = woken(chip, c, e, 0);
     shut_asks(chip, c, r, start, held(chip, c, r, e, chip.tmod, woke))
 }
 
@@ -188,13 +203,14 @@ pub(crate) fn asks_mrs(
     g: Regs,
     start: u64,
     four: u64,
+    slow: bool,
 ) -> u64
     requires { ⌜ e ≤ lastEdge ⌝ }
     requires { ⌜ start ≤ farEdge ⌝ }
-    ensures { λ x. ⌜ x ≡ asks.asksMrs chip c r e g start four ⌝ }
+    ensures { λ x. ⌜ x ≡ asks.asksMrs chip c r e g start four slow ⌝ }
 {
     let k = rank_of(c);
-    let woke = ask(k == 10, e, chip.txs, 0);
+    let woke = woken(chip, c, e, 0);
     let out = ask(k == 5, e, need19(g, r.a), woke);
     shut_asks(chip, c, r, start, held(chip, c, r, e, 4, out))
 }
@@ -207,13 +223,14 @@ pub(crate) fn asks_sre(
     g: Regs,
     start: u64,
     four: u64,
+    slow: bool,
 ) -> u64
     requires { ⌜ e ≤ lastEdge ⌝ }
     requires { ⌜ start ≤ farEdge ⌝ }
-    ensures { λ x. ⌜ x ≡ asks.asksSre chip c r e g start four ⌝ }
+    ensures { λ x. ⌜ x ≡ asks.asksSre chip c r e g start four slow ⌝ }
 {
     let k = rank_of(c);
-    let woke = ask(k == 10, e, chip.txs, 0);
+    let woke = woken(chip, c, e, 0);
     let out = ask(k == 5, e, need19(g, r.a), woke);
     shut_asks(chip, c, r, start, held(chip, c, r, e, chip.tmod, out))
 }

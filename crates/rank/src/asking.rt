@@ -1,5 +1,6 @@
 // May a seldom command come, where no deadline passes? Where this says no it may come all the same.
 use crate::seldom::may_all;
+use crate::seldom::may_enter;
 use crate::seldom::may_rest;
 use crate::seldom::may_set;
 use crate::seldom::may_wake;
@@ -17,9 +18,9 @@ pub(crate) fn may(
     shutno: &[u32; 8],
     pre: &[u64; 8],
     holds: &[u64; 4],
-    at: &[u64; 6],
-    num: &[u32; 6],
-    need: &[u32; 6],
+    at: &[u64; 9],
+    num: &[u32; 9],
+    need: &[u32; 9],
     f: Floor,
     header: Header,
     c: Command,
@@ -42,10 +43,12 @@ pub(crate) fn may(
         Command::Des => true,
         Command::Sre => {
             may_rest(actno, shutat, shutno, f.idle, holds[3], e)
-                & ((f.out <= e) & (num[4] <= num[0]))
+                & ((f.out <= e) & ((num[4] <= num[0]) & may_wake(need[6], at[6], e)))
         }
-        Command::Srx => may_wake(need[3], at[3], e),
+        Command::Srx => may_wake(need[3], at[3], e) & may_wake(need[6], at[6], e),
         Command::Low => true,
         Command::Bad => false,
+        Command::Pde => may_enter(pre, holds, f, e) & may_wake(need[6], at[6], e),
+        Command::Pdx => may_wake(need[6], at[6], e),
     }
 }

@@ -43,6 +43,8 @@ pub(crate) fn asked_by(chip: Chip, c: Command, r: Record) -> u32
         Command::Srx => chip.txs,
         Command::Low => 0,
         Command::Bad => 0,
+        Command::Pde => 0,
+        Command::Pdx => chip.txp,
     }
 }
 
@@ -57,10 +59,29 @@ fn mode_floor(r: Record, e: u64, x: u64, f: Floor) -> Floor
     g
 }
 
-// k: what the command asks for.
-pub(crate) fn floor_next(c: Command, r: Record, e: u64, k: u32, f: Floor) -> Floor
+fn exit_floor(slow: bool, e: u64, x: u64, txpdll: u32, f: Floor) -> Floor
     requires { ⌜ e ≤ farEdge ⌝ }
-    ensures { λ x. ⌜ ((C : Chip) → k ≡ ways.askedBy C c r → x ≡ ways.floorNext C c r e f) ⌝ }
+    ensures { λ y. ⌜ y ≡ cond slow (ways.rdFloor (ways.raisedFloor f x) (e + txpdll)) (ways.raisedFloor f x) ⌝ }
+{
+    let g = raised(f, x);
+    if slow {
+        return reads_later(g, e + txpdll as u64);
+    }
+    g
+}
+
+// k: what the command asks for; slow: an exit is one of precharge power-down with MR0 A12 = 0.
+pub(crate) fn floor_next(
+    c: Command,
+    r: Record,
+    e: u64,
+    k: u32,
+    slow: bool,
+    txpdll: u32,
+    f: Floor,
+) -> Floor
+    requires { ⌜ e ≤ farEdge ⌝ }
+    ensures { λ x. ⌜ ((C : Chip) → k ≡ ways.askedBy C c r → txpdll ≡ C .txpdll → x ≡ ways.floorNext C c r slow e f) ⌝ }
 {
     let y = e + k as u64;
     match c {
@@ -77,6 +98,8 @@ pub(crate) fn floor_next(c: Command, r: Record, e: u64, k: u32, f: Floor) -> Flo
         Command::Srx => reads_later(raised(f, y), e + 512),
         Command::Low => f,
         Command::Bad => f,
+        Command::Pde => f,
+        Command::Pdx => exit_floor(slow, e, y, txpdll, f),
     }
 }
 
@@ -99,5 +122,7 @@ pub(crate) fn holds_next(c: Command, e: u64, k: u32, h: [u64; 4]) -> [u64; 4]
         Command::Srx => held_to(h, y, y),
         Command::Low => h,
         Command::Bad => h,
+        Command::Pde => h,
+        Command::Pdx => held_to(h, y, y),
     }
 }

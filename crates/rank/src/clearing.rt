@@ -2,11 +2,10 @@
 use crate::numbers::least_of;
 use edges::Debt;
 ghost use mathlib.Core.Path.{_≡_};
-ghost use mathlib.Core.Bool.{true, false};
 ghost use Prim.Native.Nat.{ℕ, _+_, _≤_, _<_};
 ghost use lib.ListN.{getD};
 ghost use Rattle.running.specs.Ranges.{lastEdge};
-ghost use Rattle.edges.specs.Clearing.{dueBy, Off, Clears, Owing};
+ghost use Rattle.edges.specs.Clearing.{dueBy, Off, Clears, Owing, Staying, Anew};
 
 // x, or the edge at which the bank comes due if that is after edge and before x.
 fn next_due(a: u64, most: u32, actno: u32, shutno: u32, shutat: u64, edge: u64, x: u64) -> u64
@@ -21,6 +20,33 @@ fn next_due(a: u64, most: u32, actno: u32, shutno: u32, shutat: u64, edge: u64, 
     x
 }
 
+// x, or the edge at which a stay in power-down is too long if that is before.
+fn stay_of(level: bool, sleeps: bool, at: u64, stay: u32, x: u64) -> u64
+    requires { ⌜ at ≤ lastEdge ⌝ }
+    ensures { λ r. ⌜ Staying level sleeps at stay r ⌝ }
+    ensures { λ r. ⌜ r ≤ x ⌝ }
+{
+    if level {
+        return x;
+    }
+    if sleeps {
+        return x;
+    }
+    least_of(x, at + stay as u64 + 1)
+}
+
+// x, or the edge at which 9 would be owed if that is before.
+fn owing_of(d: Debt, x: u64) -> u64
+    ensures { λ r. ⌜ Owing d r ⌝ }
+    ensures { λ r. ⌜ r ≤ x ⌝ }
+{
+    if d.sleeps {
+        return x;
+    }
+    least_of(x, d.due)
+}
+
+// at: the latest change of CKE.
 pub(crate) fn clear_of(
     actat: &[u64; 8],
     actno: &[u32; 8],
@@ -29,12 +55,17 @@ pub(crate) fn clear_of(
     most: u32,
     edge: u64,
     d: Debt,
+    level: bool,
+    at: u64,
+    stay: u32,
 ) -> u64
     requires { ⌜ edge ≤ lastEdge ⌝ }
+    requires { ⌜ at ≤ lastEdge ⌝ }
     requires { ⌜ ((b : ℕ) → b < 8 → getD (now actat) b 0 ≤ lastEdge) ⌝ }
     ensures { λ r. ⌜ Clears most (now (actat .entry)) (now (actno .entry)) (now (shutat .entry)) (now (shutno .entry)) edge r ⌝ }
     ensures { λ r. ⌜ r ≤ edge + most + 1 ⌝ }
     ensures { λ r. ⌜ Owing d r ⌝ }
+    ensures { λ r. ⌜ Staying level (d .sleeps) at stay r ⌝ }
 {
     let mut x = edge + most as u64 + 1;
     let mut b: usize = 0;
@@ -42,10 +73,7 @@ pub(crate) fn clear_of(
         x = next_due(actat[b], most, actno[b], shutno[b], shutat[b], edge, x);
         b += 1;
     }
-    if d.sleeps {
-        return x;
-    }
-    least_of(x, d.due)
+    owing_of(d, stay_of(level, d.sleeps, at, stay, x))
 }
 
 // clear, or worked out anew.
@@ -58,17 +86,18 @@ pub(crate) fn clear_anew(
     most: u32,
     edge: u64,
     d: Debt,
+    level: bool,
+    at: u64,
+    stay: u32,
     clear: u64,
 ) -> u64
     requires { ⌜ edge ≤ lastEdge ⌝ }
+    requires { ⌜ at ≤ lastEdge ⌝ }
     requires { ⌜ ((b : ℕ) → b < 8 → getD (now actat) b 0 ≤ lastEdge) ⌝ }
-    ensures { λ r. ⌜ (yes ≡ true → Clears most (now (actat .entry)) (now (actno .entry)) (now (shutat .entry)) (now (shutno .entry)) edge r) ⌝ }
-    ensures { λ r. ⌜ (yes ≡ true → r ≤ edge + most + 1) ⌝ }
-    ensures { λ r. ⌜ (yes ≡ true → Owing d r) ⌝ }
-    ensures { λ r. ⌜ (yes ≡ false → r ≡ clear) ⌝ }
+    ensures { λ r. ⌜ Anew yes most (now (actat .entry)) (now (actno .entry)) (now (shutat .entry)) (now (shutno .entry)) edge d level at stay clear r ⌝ }
 {
     if yes {
-        return clear_of(actat, actno, shutat, shutno, most, edge, d);
+        return clear_of(actat, actno, shutat, shutno, most, edge, d, level, at, stay);
     }
     clear
 }

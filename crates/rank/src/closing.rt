@@ -2,6 +2,7 @@
 use crate::numbers::of_two;
 use crate::said::next24;
 use crate::said::next25;
+use crate::said::next28;
 use crate::views::kept_of;
 use crate::views::regs_of;
 use crate::views::written_of;
@@ -91,10 +92,12 @@ fn next_late(chip: Chip, s: Rank, hi: u64) -> Late
     requires { ⌜ Ranged s ⌝ }
     ensures { λ x. ⌜ x ≡ ends.nextLate chip s hi ⌝ }
 {
+    let at = s.device.at;
     let no = s.device.no;
     let x24 = next24(chip, s.banks, s.edge, hi);
     let x25 = next25(s.debt, no[0], hi);
-    sooner(x24, x25)
+    let x28 = next28(chip, s.level, s.debt.sleeps, at[6], no[6], hi);
+    sooner(x24, sooner(x25, x28))
 }
 
 fn told(x: Late, count: u32, end: u64) -> Verdict

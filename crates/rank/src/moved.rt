@@ -7,6 +7,7 @@ use crate::latest::device_next;
 use crate::latest::four_back;
 use crate::owing::debt_next;
 use crate::said::said;
+use crate::slow::slow_now;
 use crate::waiting::waits_next;
 use answers::Verdict;
 use chip::Chip;
@@ -28,17 +29,21 @@ fn moved(chip: Chip, s: Rank, r: Record) -> Rank
 {
     let e = s.edge + r.step;
     let n = s.count + 1;
-    let c = command_of(s.level, r);
+    let c = command_of(s.level, s.debt.sleeps, r);
     let codes = s.device.codes;
     let first = s.first;
     let g = regs_of(codes);
     let start = start_of(chip, c, r, e, g, s.banks);
     let four = four_back(chip, s.acts);
+    let actno = s.banks.actno;
+    let shutno = s.banks.shutno;
+    let written = s.device.written;
+    let slow = slow_now(actno, shutno, codes, written);
     let debt = debt_next(chip, c, e, s.debt);
     let banks = banks_next(chip, c, r, e, n, g, start, s.banks);
-    let waits = waits_next(chip, c, r, e, g, start, four, s.waits);
+    let waits = waits_next(chip, c, r, e, g, start, four, slow, s.waits);
     let acts = acts_next(c, e, n, s.acts);
-    let device = device_next(chip, c, r, e, n, s.device);
+    let device = device_next(chip, c, r, e, n, slow, s.device);
     Rank {
         edge: e,
         count: n,

@@ -101,8 +101,8 @@ pub(crate) fn put4u16(yes: bool, xs: [u16; 4], i: usize, v: u16) -> [u16; 4]
     xs
 }
 
-pub(crate) fn put6u64(yes: bool, xs: [u64; 6], i: usize, v: u64) -> [u64; 6]
-    requires { ⌜ i < 6 ⌝ }
+pub(crate) fn put9u64(yes: bool, xs: [u64; 9], i: usize, v: u64) -> [u64; 9]
+    requires { ⌜ i < 9 ⌝ }
     ensures { λ r. ⌜ r ≡ cond yes (set xs i v) xs ⌝ }
 {
     if yes {
@@ -113,8 +113,8 @@ pub(crate) fn put6u64(yes: bool, xs: [u64; 6], i: usize, v: u64) -> [u64; 6]
     xs
 }
 
-pub(crate) fn put6u32(yes: bool, xs: [u32; 6], i: usize, v: u32) -> [u32; 6]
-    requires { ⌜ i < 6 ⌝ }
+pub(crate) fn put9u32(yes: bool, xs: [u32; 9], i: usize, v: u32) -> [u32; 9]
+    requires { ⌜ i < 9 ⌝ }
     ensures { λ r. ⌜ r ≡ cond yes (set xs i v) xs ⌝ }
 {
     if yes {

@@ -1,4 +1,4 @@
-// What is said of a record: the gap before it, its edge, and rules 1 to 25.
+// What is said of a record: the gap before it, its edge, and rules 1 to 30.
 use crate::numbers::most_of;
 use crate::numbers::of_two;
 use crate::views::kept_of;
@@ -13,10 +13,15 @@ use edges::Debt;
 use edges::Rank;
 use edges::Waits;
 use kept::barred;
+use kept::exit_rules;
 use kept::first_barred;
 use kept::joined;
 use kept::last_rules;
+use kept::or_else;
 use kept::rule3;
+use kept::rule26;
+use kept::rule27;
+use kept::since;
 use kept::spacings;
 use kept::speaks_of_all;
 use records::Command;
@@ -25,9 +30,10 @@ use records::command_of;
 use records::rank_of;
 use running::Kept;
 use running::Late;
+use running::Shared;
 use says::first;
 use says::late_at;
-use says::late24;
+use says::late_by;
 use says::sooner;
 use says::soonest;
 use says::verdict_at;
@@ -35,7 +41,11 @@ use says::why;
 ghost use mathlib.Core.Path.{_≡_};
 ghost use Prim.Native.Nat.{ℕ, _+_, _≤_, _<_};
 ghost use lib.ListN.{getD};
+ghost use mathlib.Core.Bool.{cond, not};
+ghost use Rattle.answers.specs.declared.Break.the-variants.{Fine};
 ghost use Rattle.running.specs.Breaks.{rule2};
+ghost use Rattle.running.specs.Down as down;
+ghost use Rattle.running.specs.Late as late;
 ghost use Rattle.running.specs.Next as next;
 ghost use Rattle.running.specs.Ranges.{Small, limit, lastEdge, farEdge};
 ghost use Rattle.edges.specs.Asks as asks;
@@ -84,7 +94,7 @@ pub(crate) fn next24(chip: Chip, banks: Banks, lo: u64, hi: u64) -> Late
     let actno = banks.actno;
     let pick = soonest(dues_of(chip, banks), lo, hi);
     let b = pick.bank as usize;
-    late24(pick.at, actno[b], chip.most)
+    late_by(24, pick.at, actno[b], chip.most)
 }
 
 // Rule 25; at hi where the part sleeps.
@@ -98,6 +108,29 @@ pub(crate) fn next25(d: Debt, partner: u32, hi: u64) -> Late
         needed: 8,
         found: 9,
     }
+}
+
+fn stay_until(level: bool, sleeps: bool, at: u64, stay: u32, hi: u64) -> u64
+    requires { ⌜ at ≤ lastEdge ⌝ }
+    ensures { λ r. ⌜ r ≡ late.stayUntil level sleeps at stay hi ⌝ }
+{
+    if level | sleeps {
+        return hi;
+    }
+    at + stay as u64 + 1
+}
+
+// Rule 28, of the latest change of CKE; at hi where the part is not in power-down.
+pub(crate) fn next28(chip: Chip, level: bool, sleeps: bool, at: u64, no: u32, hi: u64) -> Late
+    requires { ⌜ at ≤ lastEdge ⌝ }
+    ensures { λ r. ⌜ r ≡ late.lateBy 28 (late.stayUntil level sleeps at (chip .stay) hi) no (chip .stay) ⌝ }
+{
+    late_by(
+        28,
+        stay_until(level, sleeps, at, chip.stay, hi),
+        no,
+        chip.stay,
+    )
 }
 
 // ── A record ────────────────────────────────────────────────────────────────────────────────
@@ -138,6 +171,8 @@ fn wait_for(w: Waits, c: Command, r: Record) -> u64
         Command::Srx => 0,
         Command::Low => 0,
         Command::Bad => 0,
+        Command::Pde => 0,
+        Command::Pdx => 0,
     }
 }
 
@@ -181,6 +216,58 @@ fn broken_in(chip: Chip, s: Rank, c: Command, r: Record, e: u64) -> Break
     joined(c, two, three, spacing)
 }
 
+// ── Rules 26, 27, 29 and 30 ─────────────────────────────────────────────────────────────────
+
+// Every PRE has waited, and an SRE has for three edges.
+fn entry_over(w: Waits, e: u64) -> bool
+    ensures { λ x. ⌜ x ≡ says.entryOver w e ⌝ }
+{
+    let pre = w.pre;
+    let holds = w.holds;
+    (greatest(pre) <= e) & (3 <= since(e, holds[3]))
+}
+
+fn entered(chip: Chip, s: Rank, c: Command, shared: Shared, e: u64) -> Break
+    ensures { λ x. ⌜ x ≡ cond (says.entryOver (s .waits) e) Fine (down.rule26 chip c (keptsOf chip (s .banks)) shared e) ⌝ }
+{
+    if entry_over(s.waits, e) {
+        return Break::Fine;
+    }
+    rule26(chip, c, kepts(chip, s.banks), shared, e)
+}
+
+fn turns(level: bool, cke: bool) -> bool
+    ensures { λ x. ⌜ x ≡ cond level (not cke) cke ⌝ }
+{
+    if level {
+        return !cke;
+    }
+    cke
+}
+
+fn changed_in(chip: Chip, s: Rank, c: Command, r: Record, e: u64) -> Break
+    requires { ⌜ s .acts .turn ≤ 3 ⌝ }
+    requires { ⌜ c ≡ says.commandIn s r ⌝ }
+    ensures { λ x. ⌜ x ≡ says.changedIn chip s r e ⌝ }
+{
+    let shared = shared_of(chip, s.banks, s.acts, s.device);
+    let held = rule27(turns(s.level, r.cke), e, shared);
+    or_else(entered(chip, s, c, shared, e), held)
+}
+
+fn left_in(chip: Chip, s: Rank, c: Command, r: Record, e: u64) -> Break
+    requires { ⌜ s .acts .turn ≤ 3 ⌝ }
+    requires { ⌜ c ≡ says.commandIn s r ⌝ }
+    ensures { λ x. ⌜ x ≡ says.leftIn chip s r e ⌝ }
+{
+    if wait_for(s.waits, c, r) <= e {
+        return Break::Fine;
+    }
+    exit_rules(c, e, shared_of(chip, s.banks, s.acts, s.device))
+}
+
+// ── What is said ────────────────────────────────────────────────────────────────────────────
+
 // Rule 25 at the record's edge: a REF pays for it.
 fn owing(c: Command, e: u64, x: Late) -> Break
     ensures { λ r. ⌜ r ≡ says.owing c e x ⌝ }
@@ -192,17 +279,30 @@ fn owing(c: Command, e: u64, x: Late) -> Break
 }
 
 // A deadline before the edge e; else by number what the record breaks, and the deadlines at e. No break: all 0.
-fn says_by(e: u64, n: u32, x24: Late, x25: Late, b: Break, o: Break) -> Verdict
-    ensures { λ r. ⌜ r ≡ says.saysBy e n x24 x25 b o ⌝ }
+// rules: of 1 to 23; owes: of 25 at the edge; changed: of 26 and 27; left: of 29 and 30.
+fn says_by(
+    e: u64,
+    n: u32,
+    x24: Late,
+    x25: Late,
+    x28: Late,
+    rules: Break,
+    owes: Break,
+    changed: Break,
+    left: Break,
+) -> Verdict
+    ensures { λ r. ⌜ r ≡ says.saysBy e n x24 x25 x28 rules owes changed left ⌝ }
 {
-    let x = sooner(x24, x25);
+    let x = sooner(x24, sooner(x25, x28));
     if x.at < e {
         return verdict_at(x.at, 0, why(x));
     }
-    let own = verdict_at(e, n, b);
-    let at24 = verdict_at(e, 0, late_at(e, x24));
-    let at25 = verdict_at(e, 0, o);
-    first(own, first(at24, at25))
+    let at30 = verdict_at(e, n, left);
+    let at28 = first(verdict_at(e, 0, late_at(e, x28)), at30);
+    let at26 = first(verdict_at(e, n, changed), at28);
+    let at25 = first(verdict_at(e, 0, owes), at26);
+    let at24 = first(verdict_at(e, 0, late_at(e, x24)), at25);
+    first(verdict_at(e, n, rules), at24)
 }
 
 pub(crate) fn said(chip: Chip, s: Rank, r: Record) -> Verdict
@@ -212,11 +312,16 @@ pub(crate) fn said(chip: Chip, s: Rank, r: Record) -> Verdict
     requires { ⌜ s .count + 1 ≤ limit ⌝ }
     ensures { λ v. ⌜ v ≡ says.saysOf chip s r ⌝ }
 {
+    let at = s.device.at;
     let no = s.device.no;
     let e = s.edge + r.step;
-    let c = command_of(s.level, r);
+    let c = command_of(s.level, s.debt.sleeps, r);
     let x24 = next24(chip, s.banks, s.edge, e + 1);
     let x25 = next25(s.debt, no[0], e + 1);
-    let broken = broken_in(chip, s, c, r, e);
-    says_by(e, s.count + 1, x24, x25, broken, owing(c, e, x25))
+    let x28 = next28(chip, s.level, s.debt.sleeps, at[6], no[6], e + 1);
+    let rules = broken_in(chip, s, c, r, e);
+    let owes = owing(c, e, x25);
+    let changed = changed_in(chip, s, c, r, e);
+    let left = left_in(chip, s, c, r, e);
+    says_by(e, s.count + 1, x24, x25, x28, rules, owes, changed, left)
 }

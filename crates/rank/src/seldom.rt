@@ -1,4 +1,4 @@
-// What PRE of all banks, REF, ZQ, MRS, SRE and SRX ask for, and leave behind.
+// What PRE of all banks, REF, ZQ, MRS, SRE, SRX, power-down entry and exit ask for, and leave behind.
 use crate::numbers::most_of;
 use edges::Floor;
 use header::Header;
@@ -9,8 +9,8 @@ ghost use mathlib.Core.Bool.{true};
 ghost use Rattle.records.specs.Command.{a10, bankIn};
 ghost use Rattle.registers.specs.Allowed.{allowed};
 ghost use mathlib.Core.Path.{_≡_};
-ghost use Prim.Native.Nat.{_-_, _≤_, _<_};
-ghost use lib.ListN.{set};
+ghost use Prim.Native.Nat.{ℕ, _-_, _≤_, _<_};
+ghost use lib.ListN.{set, getD};
 ghost use Rattle.edges.specs.Seldom as seldom;
 ghost use Rattle.edges.specs.Ways as ways;
 
@@ -95,15 +95,15 @@ pub(crate) fn held_to(h: [u64; 4], x: u64, m: u64) -> [u64; 4]
 }
 
 pub(crate) fn stamp(
-    at: &mut [u64; 6],
-    num: &mut [u32; 6],
-    need: &mut [u32; 6],
+    at: &mut [u64; 9],
+    num: &mut [u32; 9],
+    need: &mut [u32; 9],
     x: usize,
     e: u64,
     n: u32,
     k: u32,
 )
-    requires { ⌜ x < 6 ⌝ }
+    requires { ⌜ x < 9 ⌝ }
     ensures { λ r. ⌜ now (at .exit) ≡ set (now (at .entry)) x e ⌝ }
     ensures { λ r. ⌜ now (num .exit) ≡ set (now (num .entry)) x n ⌝ }
     ensures { λ r. ⌜ now (need .exit) ≡ set (now (need .entry)) x k ⌝ }
@@ -174,4 +174,28 @@ pub(crate) fn may_wake(need: u32, at: u64, e: u64) -> bool
     ensures { λ x. ⌜ (x ≡ true → need ≤ e - at) ⌝ }
 {
     need as u64 <= since(e, at)
+}
+
+// Has each bank waited for a PRE?
+fn ready(pre: &[u64; 8], e: u64) -> bool
+    ensures { λ r. ⌜ (r ≡ true → (b : ℕ) → b < 8 → getD (now (pre .entry)) b 0 ≤ e) ⌝ }
+{
+    let mut b: usize = 0;
+    while b < 8 {
+        if e < pre[b] {
+            return false;
+        }
+        b += 1;
+    }
+    true
+}
+
+// A power-down entry: every PRE has waited, and an SRE has for three edges.
+pub(crate) fn may_enter(pre: &[u64; 8], holds: &[u64; 4], f: Floor, e: u64) -> bool
+    ensures { λ x. ⌜ (x ≡ true → seldom.Entered e f (now (pre .entry)) (now (holds .entry))) ⌝ }
+{
+    if (e < f.pre) | ((since(e, holds[3]) < 3) | ((since(e, f.idle) < 3) | (since(e, f.out) < 3))) {
+        return false;
+    }
+    ready(pre, e)
 }

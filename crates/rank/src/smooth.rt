@@ -1,12 +1,11 @@
 // The lane: frequent commands, and seldom ones that may come, one after the other.
 use crate::asking::may;
-use crate::clearing::clear_anew;
 use crate::clearing::clear_of;
 use crate::clocks::asks_anew;
 use crate::clocks::asks_of;
 use crate::clocks::regs_of;
-use crate::coming::come;
 use crate::numbers::if_so;
+use crate::passing::pass;
 use crate::quick::quick;
 use crate::quick::record_at;
 use chip::Chip;
@@ -81,9 +80,9 @@ pub(crate) fn smoothly(
     holds: &mut [u64; 4],
     ringat: &mut [u64; 4],
     ringno: &mut [u32; 4],
-    devat: &mut [u64; 6],
-    devno: &mut [u32; 6],
-    devneed: &mut [u32; 6],
+    devat: &mut [u64; 9],
+    devno: &mut [u32; 9],
+    devneed: &mut [u32; 9],
     codes: &mut [u16; 4],
     written: &mut [bool; 4],
     chip: Chip,
@@ -95,7 +94,7 @@ pub(crate) fn smoothly(
     bytes: &[u8],
     from: usize,
 ) -> Lane
-    requires { ⌜ lane.Fit chip (now bytes) from debt (running.trackOf edge count (now actat) (now actno) (now actneed) (now row) (now colat) (now colno) (now colpre) (now colturn) (now colout) (now shutat) (now shutno) (now act) (now col) (now pre) (now ringat) (now ringno) oldest noFloor) ⌝ }
+    requires { ⌜ lane.Fit chip (now bytes) from debt (device.deviceBy (now devat) (now devno) (now devneed) (now codes) (now written)) (running.trackOf edge count (now actat) (now actno) (now actneed) (now row) (now colat) (now colno) (now colpre) (now colturn) (now colout) (now shutat) (now shutno) (now act) (now col) (now pre) (now ringat) (now ringno) oldest noFloor) ⌝ }
     ensures { λ r. ⌜ lane.Smoothly chip (now (bytes .entry)) from high debt (now (holds .entry)) (device.deviceBy (now (devat .entry)) (now (devno .entry)) (now (devneed .entry)) (now (codes .entry)) (now (written .entry))) (running.trackOf edge count (now (actat .entry)) (now (actno .entry)) (now (actneed .entry)) (now (row .entry)) (now (colat .entry)) (now (colno .entry)) (now (colpre .entry)) (now (colturn .entry)) (now (colout .entry)) (now (shutat .entry)) (now (shutno .entry)) (now (act .entry)) (now (col .entry)) (now (pre .entry)) (now (ringat .entry)) (now (ringno .entry)) oldest noFloor) (r .level) (r .debt) (now (holds .exit)) (device.deviceBy (now (devat .exit)) (now (devno .exit)) (now (devneed .exit)) (now (codes .exit)) (now (written .exit))) (running.trackOf (r .edge) (r .count) (now (actat .exit)) (now (actno .exit)) (now (actneed .exit)) (now (row .exit)) (now (colat .exit)) (now (colno .exit)) (now (colpre .exit)) (now (colturn .exit)) (now (colout .exit)) (now (shutat .exit)) (now (shutno .exit)) (now (act .exit)) (now (col .exit)) (now (pre .exit)) (now (ringat .exit)) (now (ringno .exit)) (r .turn) (r .floor)) (r .at) ⌝ }
 {
     let mut turn = oldest;
@@ -107,7 +106,18 @@ pub(crate) fn smoothly(
     let mut f = none();
     let mut stale = false;
     let mut w = asks_of(chip, regs_of(*codes));
-    let mut clear = clear_of(actat, actno, shutat, shutno, chip.most, e, d);
+    let mut clear = clear_of(
+        actat,
+        actno,
+        shutat,
+        shutno,
+        chip.most,
+        e,
+        d,
+        level,
+        devat[6],
+        chip.stay,
+    );
     let real = numbered(actno, no);
     while at < bytes.len() {
         let peek = record_at(bytes, at);
@@ -166,7 +176,7 @@ pub(crate) fn smoothly(
         }
         let r = record_at(bytes, at);
         let e1 = e + r.step;
-        let c = command_of(level, r);
+        let c = command_of(level, d.sleeps, r);
         if ((r.step == 0) | (clear <= e1))
             | !may(
                 actno,
@@ -197,7 +207,10 @@ pub(crate) fn smoothly(
         at += 6;
         e = e1;
         no = no + 1;
-        let left = come(
+        let k = rank_of(c);
+        let left = pass(
+            actat,
+            actno,
             shutat,
             shutno,
             holds,
@@ -213,24 +226,14 @@ pub(crate) fn smoothly(
             r,
             e,
             no,
+            clear,
         );
         d = left.debt;
         f = left.floor;
+        clear = left.clear;
         level = r.cke;
-        // An MRS; then a REF, a PRE of all banks and an SRX.
-        let k = rank_of(c);
+        // An MRS.
         stale = stale | (k == 0);
-        clear = clear_anew(
-            ((k == 1) | (k == 2)) | (k == 10),
-            actat,
-            actno,
-            shutat,
-            shutno,
-            chip.most,
-            e,
-            d,
-            clear,
-        );
     }
     Lane {
         edge: e,

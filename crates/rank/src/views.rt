@@ -1,4 +1,4 @@
-// What is kept, as rules 1 to 23 ask for it: the marks of a bank, and those that all banks share.
+// What is kept, as rules 1 to 30 ask for it: the marks of a bank, and those that all banks share.
 use chip::Chip;
 use chip::Regs;
 use edges::Acts;
@@ -207,7 +207,7 @@ fn act_back(chip: Chip, acts: Acts, n: u64) -> Mark
 // ── The device ──────────────────────────────────────────────────────────────────────────────
 
 fn device_mark(device: Device, i: usize) -> Mark
-    requires { ⌜ i < 6 ⌝ }
+    requires { ⌜ i < 9 ⌝ }
     ensures { λ r. ⌜ r ≡ views.deviceMark device i ⌝ }
 {
     let at = device.at;
@@ -229,6 +229,9 @@ fn rests_of(device: Device) -> Rests
         reset: reset_of(device_mark(device, 4), device_mark(device, 5)),
         woke: device_mark(device, 4),
         slept: device_mark(device, 3),
+        turned: device_mark(device, 6),
+        left: device_mark(device, 7),
+        slow: device_mark(device, 8),
     }
 }
 
@@ -272,7 +275,7 @@ pub(crate) fn regs_of(device: Device) -> Regs
     }
 }
 
-// What rules 4 to 23 look at; now, level, debt and regs they do not.
+// What rules 4 to 30 look at; now, level and debt they do not.
 pub(crate) fn shared_of(chip: Chip, banks: Banks, acts: Acts, device: Device) -> Shared
     requires { ⌜ acts .turn ≤ 3 ⌝ }
     ensures { λ r. ⌜ r ≡ views.sharedOf chip banks acts device ⌝ }
@@ -293,12 +296,7 @@ pub(crate) fn shared_of(chip: Chip, banks: Banks, acts: Acts, device: Device) ->
             phase: 0,
             owed: 0,
         },
-        regs: Regs {
-            mr0: 0,
-            mr1: 0,
-            mr2: 0,
-            mr3: 0,
-        },
+        regs: regs_of(device),
         written: written_of(device),
         read: read_of(banks),
         wrote: wrote_of(banks),

@@ -28,17 +28,18 @@ fn act_waits(
     g: Regs,
     start: u64,
     four: u64,
+    slow: bool,
     was: [u64; 8],
 ) -> [u64; 8]
     requires { ⌜ Small chip ⌝ }
     requires { ⌜ e ≤ lastEdge ⌝ }
     requires { ⌜ start ≤ farEdge ⌝ }
-    ensures { λ x. ⌜ x ≡ table (λ b. max (getD was b 0) (asks.asksAct chip c r e g start four b)) ⌝ }
+    ensures { λ x. ⌜ x ≡ table (λ b. max (getD was b 0) (asks.asksAct chip c r e g start four slow b)) ⌝ }
 {
     let mut out = [0u64; 8];
     let mut i: usize = 0;
     while i < 8 {
-        out[i] = most_of(was[i], asks_act(chip, c, r, e, g, start, four, i));
+        out[i] = most_of(was[i], asks_act(chip, c, r, e, g, start, four, slow, i));
         i += 1;
     }
     out
@@ -52,17 +53,18 @@ fn rd_waits(
     g: Regs,
     start: u64,
     four: u64,
+    slow: bool,
     was: [u64; 16],
 ) -> [u64; 8]
     requires { ⌜ Small chip ⌝ }
     requires { ⌜ e ≤ lastEdge ⌝ }
     requires { ⌜ start ≤ farEdge ⌝ }
-    ensures { λ x. ⌜ x ≡ table (λ b. max (getD was b 0) (asks.asksRd chip c r e g start four b)) ⌝ }
+    ensures { λ x. ⌜ x ≡ table (λ b. max (getD was b 0) (asks.asksRd chip c r e g start four slow b)) ⌝ }
 {
     let mut out = [0u64; 8];
     let mut i: usize = 0;
     while i < 8 {
-        out[i] = most_of(was[i], asks_rd(chip, c, r, e, g, start, four, i));
+        out[i] = most_of(was[i], asks_rd(chip, c, r, e, g, start, four, slow, i));
         i += 1;
     }
     out
@@ -76,17 +78,18 @@ fn wr_waits(
     g: Regs,
     start: u64,
     four: u64,
+    slow: bool,
     was: [u64; 16],
 ) -> [u64; 8]
     requires { ⌜ Small chip ⌝ }
     requires { ⌜ e ≤ lastEdge ⌝ }
     requires { ⌜ start ≤ farEdge ⌝ }
-    ensures { λ x. ⌜ x ≡ table (λ b. max (getD was (b + 8) 0) (asks.asksWr chip c r e g start four b)) ⌝ }
+    ensures { λ x. ⌜ x ≡ table (λ b. max (getD was (b + 8) 0) (asks.asksWr chip c r e g start four slow b)) ⌝ }
 {
     let mut out = [0u64; 8];
     let mut i: usize = 0;
     while i < 8 {
-        out[i] = most_of(was[i + 8], asks_wr(chip, c, r, e, g, start, four, i));
+        out[i] = most_of(was[i + 8], asks_wr(chip, c, r, e, g, start, four, slow, i));
         i += 1;
     }
     out
@@ -100,17 +103,18 @@ fn pre_waits(
     g: Regs,
     start: u64,
     four: u64,
+    slow: bool,
     was: [u64; 8],
 ) -> [u64; 8]
     requires { ⌜ Small chip ⌝ }
     requires { ⌜ e ≤ lastEdge ⌝ }
     requires { ⌜ start ≤ farEdge ⌝ }
-    ensures { λ x. ⌜ x ≡ table (λ b. max (getD was b 0) (asks.asksPre chip c r e g start four b)) ⌝ }
+    ensures { λ x. ⌜ x ≡ table (λ b. max (getD was b 0) (asks.asksPre chip c r e g start four slow b)) ⌝ }
 {
     let mut out = [0u64; 8];
     let mut i: usize = 0;
     while i < 8 {
-        out[i] = most_of(was[i], asks_pre(chip, c, r, e, g, start, four, i));
+        out[i] = most_of(was[i], asks_pre(chip, c, r, e, g, start, four, slow, i));
         i += 1;
     }
     out
@@ -147,26 +151,27 @@ pub(crate) fn waits_next(
     g: Regs,
     start: u64,
     four: u64,
+    slow: bool,
     w: Waits,
 ) -> Waits
     requires { ⌜ Small chip ⌝ }
     requires { ⌜ e ≤ lastEdge ⌝ }
     requires { ⌜ start ≤ farEdge ⌝ }
-    ensures { λ x. ⌜ x ≡ asks.waitsNext chip c r e g start four w ⌝ }
+    ensures { λ x. ⌜ x ≡ asks.waitsNext chip c r e g start four slow w ⌝ }
 {
     let act = w.act;
     let col = w.col;
     let pre = w.pre;
     let holds = w.holds;
-    let rds = rd_waits(chip, c, r, e, g, start, four, col);
-    let wrs = wr_waits(chip, c, r, e, g, start, four, col);
-    let refs = asks_ref(chip, c, r, e, g, start, four);
-    let mrs = asks_mrs(chip, c, r, e, g, start, four);
-    let sre = asks_sre(chip, c, r, e, g, start, four);
+    let rds = rd_waits(chip, c, r, e, g, start, four, slow, col);
+    let wrs = wr_waits(chip, c, r, e, g, start, four, slow, col);
+    let refs = asks_ref(chip, c, r, e, g, start, four, slow);
+    let mrs = asks_mrs(chip, c, r, e, g, start, four, slow);
+    let sre = asks_sre(chip, c, r, e, g, start, four, slow);
     Waits {
-        act: act_waits(chip, c, r, e, g, start, four, act),
+        act: act_waits(chip, c, r, e, g, start, four, slow, act),
         col: joined(rds, wrs),
-        pre: pre_waits(chip, c, r, e, g, start, four, pre),
+        pre: pre_waits(chip, c, r, e, g, start, four, slow, pre),
         holds: [
             most_of(holds[0], refs),
             most_of(holds[1], mrs),

@@ -14,8 +14,8 @@ abbrev pub Decode : (b0 b1 b2 b3 b4 b5 : ℕ) (r : Record) → Type 0
 Decode b0 b1 b2 b3 b4 b5 r = r ≡ recordOf b0 b1 b2 b3 b4 b5
 
 -- `command_of`
-abbrev pub CommandOf : (before : Bool) (r : Record) (c : Command) → Type 0
-CommandOf before r c = c ≡ commandOf before r
+abbrev pub CommandOf : (before asleep : Bool) (r : Record) (c : Command) → Type 0
+CommandOf before asleep r c = c ≡ commandOf before asleep r
 
 -- `rank_of`
 abbrev pub RankOf : (c : Command) (r : ℕ) → Type 0

@@ -13,7 +13,7 @@ pub struct Record {
     pub a: u16,
 }
 
-// Low: CKE stays low and the pins are ignored. Bad: a CKE change that is neither SRE nor SRX.
+// Low: CKE stays low and the pins are ignored. Bad: a CKE change that is none of the others. Pde, Pdx: entry and exit of power-down.
 pub enum Command {
     Mrs,
     Ref,
@@ -28,6 +28,8 @@ pub enum Command {
     Srx,
     Low,
     Bad,
+    Pde,
+    Pdx,
 }
 
 pub fn decode(b0: u8, b1: u8, b2: u8, b3: u8, b4: u8, b5: u8) -> Record
@@ -48,9 +50,9 @@ fn fields(w: u64) -> Record
     }
 }
 
-// The command of a record, by the CKE level before it.
-pub fn command_of(before: bool, r: Record) -> Command
-    ensures { λ c. ⌜ CommandOf before r c ⌝ }
+// The command of a record, by the CKE level before it, and whether the part was asleep.
+pub fn command_of(before: bool, asleep: bool, r: Record) -> Command
+    ensures { λ c. ⌜ CommandOf before asleep r c ⌝ }
 {
     let pins = r.pins;
     if before {
@@ -60,7 +62,7 @@ pub fn command_of(before: bool, r: Record) -> Command
         return falls(pins);
     }
     if r.cke {
-        return rises(pins);
+        return rises(asleep, pins);
     }
     Command::Low
 }
@@ -87,16 +89,22 @@ fn falls(pins: u64) -> Command
     if pins == 1 {
         return Command::Sre;
     }
+    if 7 <= pins {
+        return Command::Pde;
+    }
     Command::Bad
 }
 
-fn rises(pins: u64) -> Command
-    ensures { λ c. ⌜ c ≡ rising pins ⌝ }
+fn rises(asleep: bool, pins: u64) -> Command
+    ensures { λ c. ⌜ c ≡ rising asleep pins ⌝ }
 {
-    if 7 <= pins {
+    if pins < 7 {
+        return Command::Bad;
+    }
+    if asleep {
         return Command::Srx;
     }
-    Command::Bad
+    Command::Pdx
 }
 
 // The command's number, by which commands are told apart.
@@ -117,5 +125,7 @@ pub fn rank_of(c: Command) -> u64
         Command::Srx => 10,
         Command::Low => 11,
         Command::Bad => 12,
+        Command::Pde => 13,
+        Command::Pdx => 14,
     }
 }

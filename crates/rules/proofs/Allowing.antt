@@ -1,4 +1,4 @@
--- A record breaks none of rules 4 to 21 exactly where its edge is not below its waiting time.
+-- A record breaks none of rules 4 to 21, 29 and 30 exactly where its edge is not below its waiting time.
 -- Assumes nothing.
 use Prim.Native.Nat.{ℕ, zero, suc, _-_, _≤_, _<_, max}
 use native.Mathlib.Omega.{arith}
@@ -14,16 +14,17 @@ use Rattle.answers.specs.declared.Break.the-variants.{Fine}
 use Rattle.answers.specs.Answer.{orElse}
 use Rattle.records.specs.declared.Record.{Record}
 use Rattle.records.specs.declared.Command.{Command}
-use Rattle.records.specs.declared.Command.the-variants.{Mrs, Ref, Pre, Act, Wr, Rd, Zq, Nop, Des, Sre, Srx, Low, Bad}
+use Rattle.records.specs.declared.Command.the-variants.{Mrs, Ref, Pre, Act, Wr, Rd, Zq, Nop, Des, Sre, Srx, Low, Bad, Pde, Pdx}
 use Rattle.records.specs.Command.{isA, counts, a10}
 use Rattle.chip.specs.declared.Chip.{Chip}
 use Rattle.running.specs.Waits.{ends}
 use Rattle.rules.specs.Past.{Past, edge, number, command, is, bankOf, on, back, greatest}
 use Rattle.rules.specs.Registers.{dllReset}
 use Rattle.rules.specs.Banks.{actOn, closes, shuts, start}
+use Rattle.rules.specs.Down.{slowExit}
 use Rattle.rules.specs.Search.{lookBack, asking, Spacing, row}
-use Rattle.rules.specs.Rules.{r4, r6, r7, r9, r10, r11, r12r, r12w, r13, r14, r15, r16, r17, r18, r19, r20, r21, r22, spacing, spaced, since, fourth, rule1, rule2, rule3, rule5, rule8, rule23, checks, breakAt}
-use Rattle.rules.specs.Waiting.{Ask, furthest, ofAll, ofBanks, by, byStart, afterFourth, byFourth, asks, wait, waitAt, spacingRules}
+use Rattle.rules.specs.Rules.{r4, r6, r7, r9, r10, r11, r12r, r12w, r13, r14, r15, r16, r17, r18, r19, r20, r21, r22, r29, r30, spacing, spaced, since, fourth, rule1, rule2, rule3, rule5, rule8, rule23, checks, breakAt}
+use Rattle.rules.specs.Waiting.{Ask, furthest, ofAll, ofBanks, by, byStart, afterFourth, byFourth, asks, wait, waitAt, spacingRules, waitingRules}
 use Rattle.rules.proofs.Generic.{decide, edge-le, kept-fine, short-fine, fine-kept}
 use Rattle.rules.proofs.Events.{never, orElse-fine, back-edge}
 use Rattle.rules.proofs.Clean.{is-command, wantsAll}
@@ -32,7 +33,7 @@ use Rattle.rules.proofs.Dominate.{and-true, bank-small}
 use Rattle.rules.proofs.Summary.{startMark}
 use Rattle.rules.proofs.Furthest.{asksFrom, met, met-furthest, furthest-start, furthest-fourth}
 
--- rules 4 to 21 are all rules but 1 to 3, 22 and 23
+-- rules 4 to 21 are all of rules 1 to 23 but 1 to 3, 22 and 23
 pub rules-parts : (C : Chip) → checks C ≡ rule1 C ∷ rule2 C ∷ rule3 C ∷ spacingRules C ++ (spaced C r22 ∷ rule23 C ∷ [])
 rules-parts C = refl
 
@@ -93,7 +94,7 @@ module _ (C : Chip) where
       ∷ (isA Rd c, by C r12r (is Rd)) ∷ (isA Wr c, by C r12w (is Wr)) ∷ (isA Wr c, by C r13 (is Rd)) ∷ (isA Rd c, by C r14 (is Wr))
       ∷ (counts c, by C r15 (is Ref)) ∷ (isA Mrs c, by C r16 (is Mrs)) ∷ (counts c && not (isA Mrs c), by C r17 (is Mrs))
       ∷ (counts c, by C r18 (is Zq)) ∷ (isA Mrs c || isA Sre c, by C r19 (is Rd)) ∷ (isA Rd c, by C r20 (λ s. dllReset s || is Srx s))
-      ∷ (counts c, by C r21 (is Srx)) ∷ []
+      ∷ (counts c, by C r21 (is Srx)) ∷ (counts c, by C r29 (is Pdx)) ∷ (isA Rd c, by C r30 (slowExit C)) ∷ []
 
   -- command by command these are the asks, but for a PRE of all banks
   every-asks : (c : Command) (a : Bool) (b : ℕ) → isA Pre c && a ≡ false → chosen (everyAsk c b (λ s. a || on b s)) ≡ asks C c b
@@ -112,6 +113,8 @@ module _ (C : Chip) where
   every-asks Srx a b n = refl
   every-asks Low a b n = refl
   every-asks Bad a b n = refl
+  every-asks Pde a b n = refl
+  every-asks Pdx a b n = refl
 
 -- none of the checks g is broken just if no ask of l is left
 record Tied (e : ℕ) (p : Past) (g : Break) (l : List Ask) : Type 0 where
@@ -162,7 +165,7 @@ module _ (C : Chip) (S : Sound C) (r : Record) (p : Past) where
   five-says true y = where-is true (since-waits C e (S .rp-least) (closes b) p)
   five-says false y = where-is y (since-waits C e (S .rp-least) shuts p)
 
-  all-tied : Tied e p (breakAt (spacingRules C) r p) (chosen (everyAsk C (command (r ∷ p)) b (λ s. a10 r || on b s)))
+  all-tied : Tied e p (breakAt (waitingRules C) r p) (chosen (everyAsk C (command (r ∷ p)) b (λ s. a10 r || on b s)))
   all-tied =
       row-tie (spacing C r4)
       (tie (rule5 C r p) _ _ (five-says (is Act (r ∷ p)) (wantsAll (r ∷ p)))
@@ -183,12 +186,14 @@ module _ (C : Chip) (S : Sound C) (r : Record) (p : Past) where
       (row-tie (spacing C r19)
       (row-tie (spacing C r20)
       (row-tie (spacing C r21)
-      (record { to = λ _. omega arith; from = λ _. refl })))))))))))))))))))
+      (row-tie (spacing C r29)
+      (row-tie (spacing C r30)
+      (record { to = λ _. omega arith; from = λ _. refl })))))))))))))))))))))
 
   -- ── A PRE of all banks ────────────────────────────────────────────────────────────────────
 
   -- the greatest of the banks is at most e just if each bank's is
-  of-banks : (f : ℕ → ℕ) (n : ℕ) → ofBanks f n ≤ e → (k : ℕ) → k < n → f k ≤ e
+  pub of-banks : (f : ℕ → ℕ) (n : ℕ) → ofBanks f n ≤ e → (k : ℕ) → k < n → f k ≤ e
   unfolding ofBanks
   of-banks f zero h k l = absurd (omega arith)
   of-banks f (suc n) h k l = elim (ℕ-discrete k n) [
@@ -228,15 +233,15 @@ module _ (C : Chip) (S : Sound C) (r : Record) (p : Past) where
 
   -- ── The statement ─────────────────────────────────────────────────────────────────────────
 
-  -- the record breaks none of rules 4 to 21 just if its edge is not below its waiting time
-  pub waits-allow : (breakAt (spacingRules C) r p ≡ Fine) ↔ (waitAt C r p ≤ edge (r ∷ p))
+  -- the record breaks none of rules 4 to 21, 29 and 30 just if its edge is not below its waiting time
+  pub waits-allow : (breakAt (waitingRules C) r p ≡ Fine) ↔ (waitAt C r p ≤ edge (r ∷ p))
   unfolding waitAt wait
   waits-allow = ⊎-elim
       (λ (y : is Pre (r ∷ p) && a10 r ≡ true).
       let w = both (is Pre (r ∷ p)) (a10 r) y in
-      let t = subst (Tied e p (breakAt (spacingRules C) r p)) (λ i. chosen (everyAsk C (is-command Pre r p (w .0) i) b (λ s. w .1 i || on b s))) all-tied in
+      let t = subst (Tied e p (breakAt (waitingRules C) r p)) (λ i. chosen (everyAsk C (is-command Pre r p (w .0) i) b (λ s. w .1 i || on b s))) all-tied in
       rw y (λ h. banks-of (λ n. wait C Pre n p) 8 (all-banks .0 (t .to h)), λ h. t .from (all-banks .1 (of-banks (λ n. wait C Pre n p) 8 h))))
       (λ (n : is Pre (r ∷ p) && a10 r ≡ false).
-      let t = subst (Tied e p (breakAt (spacingRules C) r p)) (every-asks C (command (r ∷ p)) (a10 r) b n) all-tied in
+      let t = subst (Tied e p (breakAt (waitingRules C) r p)) (every-asks C (command (r ∷ p)) (a10 r) b n) all-tied in
       rw n (t .to, t .from))
       (decide (is Pre (r ∷ p) && a10 r))

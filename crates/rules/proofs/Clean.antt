@@ -17,14 +17,14 @@ use Rattle.answers.specs.declared.Break.{Break}
 use Rattle.answers.specs.declared.Break.the-variants.{Fine}
 use Rattle.records.specs.declared.Record.{Record}
 use Rattle.records.specs.declared.Command.{Command}
-use Rattle.records.specs.declared.Command.the-variants.{Mrs, Ref, Pre, Act, Wr, Rd, Zq, Nop, Des, Sre, Srx, Low, Bad}
+use Rattle.records.specs.declared.Command.the-variants.{Mrs, Ref, Pre, Act, Wr, Rd, Zq, Nop, Des, Sre, Srx, Low, Bad, Pde, Pdx}
 use Rattle.records.specs.Command.{rank, a10}
 use Rattle.chip.specs.declared.Chip.{Chip}
 use Rattle.rules.specs.Past.{Past, edge, command, is, a10Of, on, column, _∈_, here, there}
 use Rattle.answers.specs.Answer.{orElse, lowest}
 use Rattle.rules.specs.Search.{asking, Spacing, row}
 use Rattle.rules.specs.Banks.{closes, touches, isIdle, isOpen, notClosing, status}
-use Rattle.rules.specs.Rules.{may, concerns, barred, rule2, checks, breakAt}
+use Rattle.rules.specs.Rules.{may, concerns, barred, rule1, rule2, checks, breakAt}
 use Rattle.rules.proofs.Generic.{decide, broken-fine, fine-kept, edge-le}
 use Rattle.rules.proofs.Events.{never, either, orElse-fine}
 
@@ -83,6 +83,15 @@ module _ (C : Chip) where
       let o = edge-le j in
       omega arith
 
+  -- rule 1 is kept
+  pub not-bad : (r : Record) (q : Past) → Clean C (r ∷ q) → is Bad (r ∷ q) ≡ false
+  not-bad r q h = ⊎-elim
+      (λ (y : is Bad (r ∷ q) ≡ true).
+      let a : Among (rule1 C) (checks C) = first in
+      absurd (broken-fine (rw y at (among-fine r q a (clean-now r q h)))))
+      (λ (n : is Bad (r ∷ q) ≡ false). n)
+      (decide (is Bad (r ∷ q)))
+
   -- rule 2 is kept
   pub allowed : (r : Record) (q : Past) → Clean C (r ∷ q) → (b : ℕ) → b < 8 → concerns (command (r ∷ q)) (a10 r) (on b (r ∷ q)) ≡ true
       → may (command (r ∷ q)) (status C b q (edge (r ∷ q))) ≡ true
@@ -94,7 +103,7 @@ module _ (C : Chip) where
 
 unrank : ℕ → Command
 unrank n =
-    cond (eqb n 0) Mrs (cond (eqb n 1) Ref (cond (eqb n 2) Pre (cond (eqb n 3) Act (cond (eqb n 4) Wr (cond (eqb n 5) Rd (cond (eqb n 6) Zq (cond (eqb n 7) Nop (cond (eqb n 8) Des (cond (eqb n 9) Sre (cond (eqb n 10) Srx (cond (eqb n 11) Low (Bad))))))))))))
+    cond (eqb n 0) Mrs (cond (eqb n 1) Ref (cond (eqb n 2) Pre (cond (eqb n 3) Act (cond (eqb n 4) Wr (cond (eqb n 5) Rd (cond (eqb n 6) Zq (cond (eqb n 7) Nop (cond (eqb n 8) Des (cond (eqb n 9) Sre (cond (eqb n 10) Srx (cond (eqb n 11) Low (cond (eqb n 12) Bad (cond (eqb n 13) Pde Pdx)))))))))))))
 
 unrank-rank : (c : Command) → unrank (rank c) ≡ c
 unfolding unrank
@@ -111,6 +120,8 @@ unrank-rank Sre = refl
 unrank-rank Srx = refl
 unrank-rank Low = refl
 unrank-rank Bad = refl
+unrank-rank Pde = refl
+unrank-rank Pdx = refl
 
 pub is-command : (c : Command) (r : Record) (p : Past) → is c (r ∷ p) ≡ true → command (r ∷ p) ≡ c
 is-command c r p y = sym (unrank-rank (command (r ∷ p))) ∙ ap unrank (eqb-true _ _ y) ∙ unrank-rank c
@@ -166,6 +177,8 @@ touched Nop a o k y f = never y refl
 touched Des a o k y f = never y refl
 touched Low a o k y f = never y refl
 touched Bad a o k y f = never y refl
+touched Pde a o k y f = never y refl
+touched Pdx a o k y f = never y refl
 
 pub calm : (C : Chip) (r : Record) (q : Past) → Clean C (r ∷ q) → (b : ℕ) → b < 8 → touches b (r ∷ q) ≡ true
     → notClosing (status C b q (edge (r ∷ q))) ≡ true

@@ -10,8 +10,8 @@ use mathlib.Core.List.{_∷_}
 use Rattle.records.specs.declared.Record.{Record}
 use Rattle.records.specs.declared.Command.the-variants.{Ref}
 use Rattle.running.specs.declared.Debt.{Debt}
-use Rattle.rules.specs.Past.{Past, edge, is}
-use Rattle.rules.specs.Deadlines.{asleep, awakeTo, awakeAt, owedTo, owedAt}
+use Rattle.rules.specs.Past.{Past, edge, asleep, is}
+use Rattle.rules.specs.Deadlines.{awakeTo, awakeAt, owedTo, owedAt}
 
 unfoldable pub debtOf : ℕ → Past → Debt
 debtOf T p = record { sleeps = asleep p; phase = awakeTo p % T; owed = owedTo T p }

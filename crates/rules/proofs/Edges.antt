@@ -1,9 +1,9 @@
 -- The edges of a recording one by one, with one record more: what a later record leaves as it was, the edges of a gap, and the edge of
 -- a record.
 -- Assumes nothing.
-use Prim.Native.Nat.{ℕ, zero, suc, _-_, _≤_, _<_}
+use Prim.Native.Nat.{ℕ, zero, suc, _+_, _-_, _≤_, _<_}
 use native.Mathlib.Omega.{arith}
-use native.Mathlib.Decide.{ℕ-discrete}
+use native.Mathlib.Decide.{decLt, ℕ-discrete}
 use mathlib.Core.Path.{_≡_, refl, sym, ap, _∙_}
 use mathlib.Core.Logic.{⊎-elim}
 use mathlib.Core.Bool.{true, false, cond}
@@ -19,18 +19,19 @@ use Rattle.running.specs.declared.Late.{Late}
 use Rattle.running.specs.Late.{why}
 use Rattle.running.specs.Deadlines.{owing}
 use Rattle.running.specs.Said.{lateAt}
-use Rattle.rules.specs.Past.{Past, edge, number, is, latest, upTo}
+use Rattle.rules.specs.Past.{Past, edge, number, changes, is, latest, upTo}
 use Rattle.answers.specs.Answer.{orElse, lowest}
 use Rattle.rules.specs.Banks.{status}
-use Rattle.rules.specs.Rules.{checks, breakAt}
-use Rattle.rules.specs.Deadlines.{late, rule24, rule25, owedTo, owedAt}
+use Rattle.rules.specs.Rules.{checks, changeChecks, exitChecks, breakAt}
+use Rattle.rules.specs.Deadlines.{late, stayed, rule24, rule25, rule28, owedTo, owedAt}
 use Rattle.rules.specs.Verdict.{clean, stop, keep, told, recordSays, brokenAt, verdictTo, Apart}
+use Rattle.rules.specs.Down.{turned, down}
 use Rattle.rules.proofs.Generic.{decide, broken-fine}
-use Rattle.rules.proofs.Numbered.{keep-clean, told-clean, told-both, by-number, record-after}
+use Rattle.rules.proofs.Numbered.{keep-clean, keep-none, told-clean, told-both, inOrder, by-number, record-after}
 use Rattle.rules.proofs.Clean.{broken, Clean}
 use Rattle.rules.proofs.Debts.{owed-now}
-use Rattle.rules.proofs.Sense.{verdict-next, skip-to, stays-to, clean-edges}
-use Rattle.rules.proofs.Gap.{Due, now24, now25, late24-at, late25-at}
+use Rattle.rules.proofs.Sense.{verdict-next, skip-to, stays-to, clean-edges, clean-iff}
+use Rattle.rules.proofs.Gap.{Due, now24, now25, now28, nowAny, late24-at, late25-at, late28-at}
 
 -- ── Records up to an edge ───────────────────────────────────────────────────────────────────
 
@@ -55,11 +56,15 @@ module _ (C : Chip) where
     owed-same : (s : ℕ) → s < edge (r ∷ p) → rule25 C (r ∷ p) s ≡ rule25 C p s
     owed-same s l = ap (λ u. owing (owedAt (C .trefi) u s) (number (latest (is Ref) u))) (up-to-skip s r p l)
 
+    stay-same : (s : ℕ) → 0 < s → s < edge (r ∷ p) → rule28 C (r ∷ p) s ≡ rule28 C p s
+    stay-same s a l = ap (λ u. stayed (C .stay) (turned u) s) (up-to-skip (s - 1) r p (omega arith))
+
     broken-same : (s : ℕ) → 0 < s → s < edge (r ∷ p) → brokenAt C (r ∷ p) s ≡ brokenAt C p s
     broken-same s a l =
         by-number C (r ∷ p) s
         ∙ rw (ne-eqb (edge (r ∷ p)) s (λ e. omega arith))
-        (λ i. keep (recordSays (breakAt (checks C)) p s) (keep (told s 0 (late-same s a l i)) (told s 0 (owed-same s l i))))
+        (λ i. inOrder (recordSays (breakAt (checks C)) p s) (told s 0 (late-same s a l i)) (told s 0 (owed-same s l i))
+        (recordSays (breakAt (changeChecks C)) p s) (told s 0 (stay-same s a l i)) (recordSays (breakAt (exitChecks C)) p s))
         ∙ sym (by-number C p s)
 
     -- the edges before it are as they were
@@ -110,24 +115,24 @@ module _ (C : Chip) where
 
   -- after p, of p itself or of p with one more record
   only-late :
-      0 < C .trefi → (q p : Past) (t : ℕ) → edge p < t → upTo (t - 1) q ≡ p → upTo t q ≡ p → recordSays (breakAt (checks C)) q t ≡ clean
-      → brokenAt C q t ≡ told t 0 (orElse (now24 C p t) (now25 C p t))
+      0 < C .trefi → (q p : Past) (t : ℕ) → edge p < t → upTo (t - 1) q ≡ p → upTo t q ≡ p
+      → ((k : Record → Past → Break) → recordSays k q t ≡ clean) → brokenAt C q t ≡ told t 0 (nowAny C p t)
   unfolding keep
   only-late z q p t l h g f =
       by-number C q t
-      ∙ ap (λ v. keep v (keep (told t 0 (rule24 C q t)) (told t 0 (rule25 C q t)))) f
-      ∙ (λ i. keep (told t 0 (late24-at C p q t l h i)) (told t 0 (late25-at C p z q t g i)))
-      ∙ sym (told-both t 0 (now24 C p t) (now25 C p t))
+      ∙ (λ i. inOrder (f (breakAt (checks C)) i) (told t 0 (late24-at C p q t l h i)) (told t 0 (late25-at C p z q t g i))
+      (f (breakAt (changeChecks C)) i) (told t 0 (late28-at C p q t h i)) (f (breakAt (exitChecks C)) i))
+      ∙ ap (λ v. keep (told t 0 (now24 C p t)) (keep (told t 0 (now25 C p t)) v)) (keep-none (told t 0 (now28 C p t)))
+      ∙ sym (told-both t 0 (now24 C p t) (orElse (now25 C p t) (now28 C p t)) ∙ ap (keep (told t 0 (now24 C p t))) (told-both t 0 (now25 C p t) (now28 C p t)))
 
-  pub late-after : 0 < C .trefi → (p : Past) (t : ℕ) → edge p < t → brokenAt C p t ≡ told t 0 (orElse (now24 C p t) (now25 C p t))
-  late-after z p t l = only-late z p p t l (up-to-all (t - 1) p (omega arith)) (up-to-all t p (omega arith)) (record-after (breakAt (checks C)) p t l)
+  pub late-after : 0 < C .trefi → (p : Past) (t : ℕ) → edge p < t → brokenAt C p t ≡ told t 0 (nowAny C p t)
+  late-after z p t l = only-late z p p t l (up-to-all (t - 1) p (omega arith)) (up-to-all t p (omega arith)) (λ k. record-after k p t l)
 
   pub late-between :
-      0 < C .trefi → (r : Record) (p : Past) (t : ℕ) → edge p < t → t < edge (r ∷ p)
-      → brokenAt C (r ∷ p) t ≡ told t 0 (orElse (now24 C p t) (now25 C p t))
+      0 < C .trefi → (r : Record) (p : Past) (t : ℕ) → edge p < t → t < edge (r ∷ p) → brokenAt C (r ∷ p) t ≡ told t 0 (nowAny C p t)
   late-between z r p t l m =
       only-late z (r ∷ p) p t l (up-to-before r p t l (omega arith)) (up-to-skip t r p m ∙ up-to-all t p (omega arith))
-      (rw (ne-eqb (edge (r ∷ p)) t (λ e. omega arith)) (record-after (breakAt (checks C)) p t l))
+      (λ k. rw (ne-eqb (edge (r ∷ p)) t (λ e. omega arith)) (record-after k p t l))
 
   -- ── The edge of a record ──────────────────────────────────────────────────────────────────
 
@@ -144,7 +149,7 @@ module _ (C : Chip) where
   small-owed z (r ∷ p) a h =
       let e = edge (r ∷ p) in
       let k = clean-edges C (r ∷ p) e h e (omega arith) (omega arith) in
-      let d = keep-clean _ _ (keep-clean _ _ (sym (by-number C (r ∷ p) e) ∙ k) .1) .1 in
+      let d = keep-clean _ _ (keep-clean _ _ (keep-clean _ _ (sym (by-number C (r ∷ p) e) ∙ k) .1) .1) .0 in
       let w = told-clean e 0 (rule25 C (r ∷ p) e) d in
       ⊎-elim
       (λ (y : leb 17 (owedTo (C .trefi) (r ∷ p)) ≡ true).
@@ -152,19 +157,47 @@ module _ (C : Chip) where
       (λ (n : leb 17 (owedTo (C .trefi) (r ∷ p)) ≡ false). omega (arith, leb-false))
       (decide (leb 17 (owedTo (C .trefi) (r ∷ p))))
 
-  -- what the record breaks, by its number, then which deadline passes there
+  -- what the record breaks, by its number, and which deadline passes there
   pub at-record :
       0 < C .trefi → (r : Record) (p : Past) → 1 ≤ r .step
       → brokenAt C (r ∷ p) (edge (r ∷ p))
-      ≡ keep (told (edge (r ∷ p)) (number (r ∷ p)) (breakAt (checks C) r p))
-      (keep (told (edge (r ∷ p)) 0 (now24 C p (edge (r ∷ p))))
-      (told (edge (r ∷ p)) 0 (owing (owedTo (C .trefi) (r ∷ p)) (number (latest (is Ref) (r ∷ p))))))
+      ≡ inOrder (told (edge (r ∷ p)) (number (r ∷ p)) (breakAt (checks C) r p)) (told (edge (r ∷ p)) 0 (now24 C p (edge (r ∷ p))))
+      (told (edge (r ∷ p)) 0 (owing (owedTo (C .trefi) (r ∷ p)) (number (latest (is Ref) (r ∷ p)))))
+      (told (edge (r ∷ p)) (number (r ∷ p)) (breakAt (changeChecks C) r p)) (told (edge (r ∷ p)) 0 (now28 C p (edge (r ∷ p))))
+      (told (edge (r ∷ p)) (number (r ∷ p)) (breakAt (exitChecks C) r p))
   at-record z r p far =
       let e = edge (r ∷ p) in
       by-number C (r ∷ p) e
       ∙ rw (eq-eqb (edge (r ∷ p)) (edge (r ∷ p)) refl)
-      (λ i. keep (told e (number (r ∷ p)) (breakAt (checks C) r p))
-      (keep (told e 0 (late24-at C p (r ∷ p) e (omega arith) (up-to-before r p e (omega arith) (omega arith)) i)) (told e 0 (owing-now z (r ∷ p) i))))
+      (λ i. inOrder (told e (number (r ∷ p)) (breakAt (checks C) r p))
+      (told e 0 (late24-at C p (r ∷ p) e (omega arith) (up-to-before r p e (omega arith) (omega arith)) i)) (told e 0 (owing-now z (r ∷ p) i))
+      (told e (number (r ∷ p)) (breakAt (changeChecks C) r p))
+      (told e 0 (late28-at C p (r ∷ p) e (up-to-before r p e (omega arith) (omega arith)) i)) (told e (number (r ∷ p)) (breakAt (exitChecks C) r p)))
+
+  -- after a clean past a stay in power-down is not too long
+  pub near-stay : (p : Past) → Apart p → verdictTo C p (edge p) ≡ clean → down p ≡ true → edge p ≤ edge (turned p) + C .stay
+  near-stay [] a h y = omega arith
+  near-stay (r ∷ p) a h y = ⊎-elim
+      (λ (c : changes (r ∷ p) ≡ true). rw c (omega arith))
+      (λ (n : changes (r ∷ p) ≡ false).
+      let d : down p ≡ true = rw n at y in
+      let far : 1 ≤ r .step = a .0 in
+      let old : verdictTo C p (edge p) ≡ clean = sym (verdict-same r p (edge p) (omega arith)) ∙ clean-iff C (r ∷ p) (edge p) .1 (λ s u v. clean-edges C (r ∷ p) (edge (r ∷ p)) h s u (omega arith)) in
+      let l = near-stay p (a .1) old d in
+      rw n (elim (decLt (edge (turned p) + C .stay) (edge (r ∷ p))) [
+        | yes m ↦ absurd (passed n d l m)
+        | no m ↦ omega arith
+      ]))
+      (decide (changes (r ∷ p)))
+    where
+      passed : changes (r ∷ p) ≡ false → down p ≡ true → edge p ≤ edge (turned p) + C .stay → edge (turned p) + C .stay < edge (r ∷ p) → ⊥
+      passed n d l m =
+          let t = edge (turned p) + C .stay + 1 in
+          let k = clean-edges C (r ∷ p) (edge (r ∷ p)) h t (omega arith) (omega arith) in
+          let w = keep-clean _ _ (keep-clean _ _ (keep-clean _ _ (keep-clean _ _ (sym (by-number C (r ∷ p) t) ∙ k) .1) .1) .1) .1 in
+          let f = told-clean t 0 (rule28 C (r ∷ p) t) (keep-clean _ _ w .0) in
+          let g : stayed (C .stay) (turned p) (edge (turned p) + C .stay + 1) ≡ Fine = ap (λ u. stayed (C .stay) (turned u) t) (sym (up-to-before r p t (omega arith) (omega arith))) ∙ f in
+          broken-fine (rw (d, eq-eqb (edge (turned p) + C .stay + 1) (edge (turned p) + C .stay + 1) refl) at g)
 
 -- a deadline that is not before e passes at e, or not
 pub late-at : (f : ℕ → Break) (lo e hi : ℕ) (x : Late) → lo < e → e < hi → e ≤ x .at → Due f lo hi x → lateAt e x ≡ f e

@@ -33,6 +33,8 @@ pub record Sound (C : Chip) : Type 0 where
   pub rcd-rc : C .trcd ≤ C .trc
   -- rule 5: tRP is some clocks, so a start that has them is not ahead
   pub rp-least : 1 ≤ C .trp
+  -- rule 26: a RD before an MRS that has its clocks has its own
+  pub mod-least : 3 ≤ C .tmod
   -- rule 25: the interval is some clocks
   pub refi-least : 1 ≤ C .trefi
   -- rules 11 and 14: a write's recovery is over by the start that a read after it gives, and tWTR by tWR
@@ -118,6 +120,7 @@ module _ (h : Header) (least : 1070 ≤ h .period .ps) (most : h .period .ps ≤
         rcd-least = up-more (binOf (h .bin) .tRCD) p 1 pos (omega (arith, t .some));
         rcd-rc = up-mono (binOf (h .bin) .tRCD) (binOf (h .bin) .tRC) p pos (t .order);
         rp-least = up-more (binOf (h .bin) .tRCD) p 1 pos (omega (arith, t .some));
+        mod-least = omega arith;
         refi-least = interval (h .hot);
         wr-wtr = omega (arith, up-least 15000 p pos .least (up 7500 p + up 7500 p) (omega (arith, half .not-shorter, add-mul (up 7500 p) (up 7500 p) p)));
         wtr-wr = omega (arith, up-mono 7500 15000 p pos (omega arith), up-more 15000 p 4 pos (omega arith));

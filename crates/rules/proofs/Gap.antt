@@ -1,4 +1,4 @@
--- Rules 24 and 25 over a gap: the judge's soonest deadline is the first edge after the latest record at which a deadline passes.
+-- Rules 24, 25 and 28 over a gap: the judge's soonest deadline is the first edge after the latest record at which a deadline passes.
 -- Assumes nothing.
 use Prim.Native.Nat.{ℕ, zero, suc, _+_, _-_, _*_, _/_, _%_, _≤_, _<_}
 use native.Mathlib.Nat.{mod-lt}
@@ -6,8 +6,8 @@ use native.Mathlib.Omega.{arith}
 use native.Mathlib.Decide.{ℕ-discrete}
 use mathlib.Core.Path.{_≡_, refl, sym, ap, _∙_, subst}
 use mathlib.Core.Logic.{⊎-elim}
-use mathlib.Core.Bool.{Bool, true, false, cond, _&&_}
-use lib.Dec.{ltb, leb}
+use mathlib.Core.Bool.{Bool, true, false, cond, not, _&&_, _||_, true≢false}
+use lib.Dec.{eqb, ltb, leb}
 use borrow.Author.Tests.{ltb-true, ltb-false, leb-true, leb-false, le-leb, lt-leb, eq-eqb, ne-eqb}
 use Rattle.laws.specs.Eight.{table}
 use Rattle.laws.proofs.Eight.{getD-table}
@@ -19,16 +19,17 @@ use Rattle.running.specs.Marks.{empty}
 use Rattle.running.specs.declared.Late.{Late}
 use Rattle.running.specs.declared.Pick.{Pick}
 use Rattle.running.specs.Next.{due}
-use Rattle.running.specs.Late.{better, soonest, why, sooner}
-use Rattle.running.specs.Deadlines.{next24, next25, owing}
-use Rattle.rules.specs.Past.{Past, edge, number, is, latest, upTo}
+use Rattle.running.specs.Late.{better, soonest, why, sooner, lateBy, stayUntil}
+use Rattle.running.specs.Deadlines.{next24, next25, next28, owing}
+use Rattle.rules.specs.Past.{Past, edge, number, cke, asleep, is, latest, upTo}
 use Rattle.answers.specs.Answer.{orElse, lowest}
 use Rattle.rules.specs.Banks.{status}
-use Rattle.rules.specs.Deadlines.{late, rule24, rule25, asleep, awakeTo, owedTo, owedAt}
+use Rattle.rules.specs.Deadlines.{late, stayed, rule24, rule25, rule28, awakeTo, owedTo, owedAt}
+use Rattle.rules.specs.Down.{turned, down}
 use Rattle.rules.proofs.Generic.{decide}
 use Rattle.rules.proofs.Clean.{lowest-ext}
 use Rattle.rules.proofs.Debts.{debtOf, reaches, ahead, owed-at}
-use Rattle.rules.proofs.Summary.{kept, rests, shared, summary}
+use Rattle.rules.proofs.Summary.{mark-at, kept, rests, shared, summary}
 use Rattle.rules.proofs.Status.{mark-num, status-of, lateNow, late-now}
 
 -- ── The soonest of the banks ────────────────────────────────────────────────────────────────
@@ -122,7 +123,7 @@ due-both f g lo hi x y d e = ⊎-elim
 -- ── After the past p ────────────────────────────────────────────────────────────────────────
 
 module _ (C : Chip) (p : Past) where
-  -- rules 24 and 25 at an edge t after p, from what is kept
+  -- rules 24, 25 and 28 at an edge t after p, from what is kept
   abbrev pub now24 : ℕ → Break
   now24 t = lowest (λ b. lateNow C (kept C p b) t) 8
 
@@ -140,6 +141,16 @@ module _ (C : Chip) (p : Past) where
   late25-at z q t h =
       ap (λ u. owing (owedAt (C .trefi) u t) (number (latest (is Ref) u))) h
       ∙ ap (λ o. owing o (number (latest (is Ref) p))) (owed-at z p t)
+
+  abbrev pub now28 : ℕ → Break
+  now28 t = stayed (C .stay) (turned p) t
+
+  pub late28-at : (q : Past) (t : ℕ) → upTo (t - 1) q ≡ p → rule28 C q t ≡ now28 t
+  late28-at q t h = ap (λ u. stayed (C .stay) (turned u) t) h
+
+  -- all three, by number
+  abbrev pub nowAny : ℕ → Break
+  nowAny t = orElse (now24 t) (orElse (now25 t) (now28 t))
 
   abbrev dues : ℕ → ℕ
   dues b = due C (kept C p b)
@@ -159,6 +170,27 @@ module _ (C : Chip) (p : Past) where
                   (λ c z. rw (ne-eqb (dues c) (k .at) (λ e. omega (arith, f .before c z (omega arith))))),
             );
       }
+
+  -- rule 28 after the latest record, up to which the stay was not too long
+  module _ (is-down : down p ≡ not (cke p || asleep p)) (near : down p ≡ true → edge p ≤ edge (turned p) + C .stay) where
+    pub due28 : (hi : ℕ) → Due now28 (edge p) hi (next28 C (summary C p) hi)
+    unfolding next28 summary shared rests debtOf
+    due28 hi = rw (mark-num (λ _. C .tcke) (turned p), mark-at (λ _. C .tcke) (turned p)) (go (down p) refl (cke p || asleep p) is-down)
+      where
+        at : ℕ
+        at = edge (turned p) + C .stay + 1
+
+        late : (u : ℕ) → Late
+        late u = lateBy 28 u (number (turned p)) (C .stay)
+
+        go : (d : Bool) → down p ≡ d → (x : Bool) → d ≡ not x → Due now28 (edge p) hi (late (cond x hi at))
+        go true y true e = absurd (true≢false e)
+        go true y false e = record {
+          none = λ t a b c. rw (y, ne-eqb (edge (turned p) + C .stay + 1) t (λ w. omega arith));
+          hit = λ m. (omega (arith, near y), rw (y, eq-eqb (edge (turned p) + C .stay + 1) (edge (turned p) + C .stay + 1) refl));
+        }
+        go false n true e = record { none = λ t a b c. rw n; hit = λ m. absurd (omega arith) }
+        go false n false e = absurd (true≢false (sym e))
 
   module _ (z : 0 < C .trefi) (small : owedTo (C .trefi) p ≤ 16) where
     abbrev T : ℕ

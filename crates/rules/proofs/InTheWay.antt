@@ -10,7 +10,7 @@ use Rattle.answers.specs.declared.Bank.the-variants.{Idle, Open, Closing}
 use Rattle.answers.specs.declared.Break.{Break}
 use Rattle.answers.specs.declared.Break.the-variants.{Fine}
 use Rattle.records.specs.declared.Command.{Command}
-use Rattle.records.specs.declared.Command.the-variants.{Mrs, Ref, Pre, Act, Wr, Rd, Zq, Nop, Des, Sre, Srx, Low, Bad}
+use Rattle.records.specs.declared.Command.the-variants.{Mrs, Ref, Pre, Act, Wr, Rd, Zq, Nop, Des, Sre, Srx, Low, Bad, Pde, Pdx}
 use Rattle.records.specs.Command.{isA}
 use Rattle.running.specs.Breaks as running
 use Rattle.answers.specs.Answer.{orElse, lowest}
@@ -59,6 +59,12 @@ may-is Low (Closing a n w) = refl
 may-is Bad Idle = refl
 may-is Bad (Open a n w) = refl
 may-is Bad (Closing a n w) = refl
+may-is Pde Idle = refl
+may-is Pde (Open a n w) = refl
+may-is Pde (Closing a n w) = refl
+may-is Pdx Idle = refl
+may-is Pdx (Open a n w) = refl
+may-is Pdx (Closing a n w) = refl
 
 -- the command speaks of all banks, as the judge asks it
 abbrev pub speaks : Command → Bool → Bool
@@ -79,6 +85,8 @@ all-concern Sre a o h = refl
 all-concern Srx a o h = never h refl
 all-concern Low a o h = never h refl
 all-concern Bad a o h = never h refl
+all-concern Pde a o h = never h refl
+all-concern Pdx a o h = never h refl
 
 pub off-concern : (c : Command) (a : Bool) → speaks c a ≡ false → concerns c a false ≡ false
 off-concern Mrs a h = never refl h
@@ -95,6 +103,8 @@ off-concern Sre a h = never refl h
 off-concern Srx a h = refl
 off-concern Low a h = refl
 off-concern Bad a h = refl
+off-concern Pde a h = refl
+off-concern Pdx a h = refl
 
 pub own-concern : (c : Command) (a : Bool) (k : Bank) → speaks c a ≡ false → barred c (concerns c a true) k ≡ running.barredBy (running.wants c) k
 own-concern Mrs a k h = never refl h
@@ -111,6 +121,8 @@ own-concern Sre a k h = never refl h
 own-concern Srx a k h = may-is Srx k
 own-concern Low a k h = may-is Low k
 own-concern Bad a k h = may-is Bad k
+own-concern Pde a k h = may-is Pde k
+own-concern Pdx a k h = may-is Pdx k
 
 -- where only bank b has something to say
 pub lowest-single : (f : ℕ → Break) (n b : ℕ) → b < n → ((c : ℕ) → c < n → (c ≡ b → ⊥) → f c ≡ Fine) → lowest f n ≡ f b

@@ -1,5 +1,6 @@
 pub mod Generic
 pub mod Events
+pub mod Sleeping
 pub mod Clean
 pub mod Starts
 pub mod Facts
@@ -10,11 +11,17 @@ pub mod Summary
 pub mod Furthest
 pub mod Moves
 pub mod Status
+pub mod Down
 pub mod Words
+pub mod Either
+pub mod Entry
+pub mod Entering
 pub mod Waiting
 pub mod Allowing
 pub mod InTheWay
+pub mod Entered
 pub mod Agree
+pub mod Changing
 pub mod Numbered
 pub mod Sense
 pub mod Gap

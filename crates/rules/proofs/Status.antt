@@ -48,7 +48,7 @@ closes-not-act b s y = go (closing-by b s y)
     go (by-wr a o) = no (is-other Wr Act s (λ z. omega arith) a)
 
 module _ (C : Chip) where
-  start-mark-num : (s : Past) → startMark C s .num ≡ number s
+  pub start-mark-num : (s : Past) → startMark C s .num ≡ number s
   start-mark-num [] = refl
   start-mark-num (q ∷ s) = refl
 

@@ -5,7 +5,7 @@ use mathlib.Core.Path.{_≡_, refl, sym}
 use mathlib.Core.Bool.{Bool, _&&_, _||_}
 use mathlib.Core.List.{List, [], _∷_}
 use Rattle.laws.specs.Eight.{table}
-use Rattle.records.specs.declared.Command.the-variants.{Mrs, Ref, Act, Wr, Rd, Zq, Sre, Srx}
+use Rattle.records.specs.declared.Command.the-variants.{Mrs, Ref, Act, Wr, Rd, Zq, Sre, Srx, Pdx}
 use Rattle.chip.specs.declared.Chip.{Chip}
 use Rattle.running.specs.declared.Mark.{Mark}
 use Rattle.running.specs.declared.Kept.{Kept}
@@ -21,6 +21,7 @@ use Rattle.running.specs.Next as running
 use Rattle.rules.specs.Past.{Past, edge, number, cke, is, addressOf, on, latest, back, has, greatest}
 use Rattle.rules.specs.Registers.{mrsTo, dllReset, regs}
 use Rattle.rules.specs.Banks.{actOn, closes, shuts, start}
+use Rattle.rules.specs.Down.{turned, slowExit}
 use Rattle.rules.proofs.Starts.{start-none}
 use Rattle.rules.proofs.Debts.{debtOf}
 use Rattle.rules.proofs.Dominate.{need4, need10, need11, need13, need14, need18, need19}
@@ -87,6 +88,9 @@ module _ (C : Chip) where
         reset = mark (λ _. 512) (latest (λ s. dllReset s || is Srx s) p);
         woke = mark (λ _. C .txs) (latest (is Srx) p);
         slept = mark (λ _. C .tcke + 1) (latest (is Sre) p);
+        turned = mark (λ _. C .tcke) (turned p);
+        left = mark (λ _. C .txp) (latest (is Pdx) p);
+        slow = mark (λ _. C .txpdll) (latest (slowExit C) p);
       }
 
   unfoldable pub shared : Past → Shared

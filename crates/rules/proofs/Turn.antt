@@ -14,6 +14,7 @@ use Rattle.running.specs.Late.{why, sooner}
 use Rattle.running.specs.Said.{noVerdict, first, verdictAt}
 use Rattle.rules.specs.Past.{edge, number, is}
 use Rattle.rules.specs.Verdict.{Outcome, clean, stop, keep, told, shown}
+use Rattle.rules.proofs.Numbered.{inOrder}
 
 -- ── The judge's verdicts ────────────────────────────────────────────────────────────────────
 
@@ -44,11 +45,14 @@ sooner-first x y = go (leb (x .at) (y .at)) refl
 abbrev pub passing : Late → ℕ → Outcome
 passing x e = cond (ltb (x .at) e) (stop (x .at) 0 (why x)) clean
 
--- by number: what the record breaks, then the two deadlines
-pub said-by-number :
-    (e n : ℕ) (b c d : Break)
-    → first (verdictAt e n b) (first (verdictAt e 0 c) (verdictAt e 0 d)) ≡ said (keep (told e n b) (keep (told e 0 c) (told e 0 d)))
-said-by-number e n b c d =
-    (λ i. first (told-said e n b i) (first (told-said e 0 c i) (told-said e 0 d i)))
-    ∙ ap (first (said (told e n b))) (first-said (told e 0 c) (told e 0 d))
-    ∙ first-said (told e n b) (keep (told e 0 c) (told e 0 d))
+-- one thing more that is said first
+said-first : (e n : ℕ) (b : Break) {w : Verdict} (v : Outcome) → w ≡ said v → first (verdictAt e n b) w ≡ said (keep (told e n b) v)
+said-first e n b v h = (λ i. first (told-said e n b i) (h i)) ∙ first-said (told e n b) v
+
+-- by number: a the record's breaks of rules 1 to 23, x and y the deadlines 24 and 25, c 26 and 27, d the deadline 28, f 29 and 30
+pub said-in-order :
+    (e n : ℕ) (a x y c d f : Break)
+    → first (verdictAt e n a) (first (verdictAt e 0 x) (first (verdictAt e 0 y) (first (verdictAt e n c) (first (verdictAt e 0 d) (verdictAt e n f)))))
+    ≡ said (inOrder (told e n a) (told e 0 x) (told e 0 y) (told e n c) (told e 0 d) (told e n f))
+said-in-order e n a x y c d f =
+    said-first e n a _ (said-first e 0 x _ (said-first e 0 y _ (said-first e n c _ (said-first e 0 d _ (told-said e n f)))))

@@ -47,7 +47,7 @@ when-is true k e m rest = go (ltb (e - m .at) (m .need))
 pub also : (x : Bool) (k e : ℕ) (m : Mark) {R rest others : Break} → cond x (check k e m) Fine ≡ R → rest ≡ others → running.whenIs x k e m rest ≡ orElse R others
 also x k e m {R} {rest} {others} p q = when-is x k e m rest ∙ (λ i. orElse (p i) (q i))
 
-check-mark : (k e : ℕ) (need : Past → ℕ) (s : Past) → check k e (mark need s) ≡ checkOf edge k e need s
+pub check-mark : (k e : ℕ) (need : Past → ℕ) (s : Past) → check k e (mark need s) ≡ checkOf edge k e need s
 check-mark k e need [] = rw (le-ltb (e - 0) 0 (omega arith))
 check-mark k e need (r ∷ p) = refl
 

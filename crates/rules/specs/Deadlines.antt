@@ -1,18 +1,19 @@
--- Rules 24 and 25, which can pass at an edge with no record: 01, "Commands and the 25 rules", last of the rules.
+-- Rules 24, 25 and 28, which can pass at an edge with no record: 01, "Commands and the 25 rules", last of the rules; and 02, Q-1.
 -- Assumes nothing.
 use Prim.Native.Nat.{ℕ, _+_, _-_, _/_}
-use mathlib.Core.Bool.{Bool, false, cond, not, _&&_, _||_}
+use mathlib.Core.Bool.{Bool, false, cond, _&&_}
 use mathlib.Core.List.{[], _∷_}
 use lib.Dec.{eqb, leb}
-use Rattle.records.specs.declared.Command.the-variants.{Ref, Sre, Srx}
+use Rattle.records.specs.declared.Command.the-variants.{Ref, Pde}
 use Rattle.chip.specs.declared.Chip.{Chip}
 use Rattle.answers.specs.declared.Bank.{Bank}
 use Rattle.answers.specs.declared.Bank.the-variants.{Idle, Open, Closing}
 use Rattle.answers.specs.declared.Break.{Break}
 use Rattle.answers.specs.declared.Break.the-variants.{Fine, Broken}
-use Rattle.rules.specs.Past.{Past, edge, number, is, latest, upTo}
+use Rattle.rules.specs.Past.{Past, edge, number, asleep, is, latest, upTo}
 use Rattle.rules.specs.Banks.{actNum, status}
 use Rattle.answers.specs.Answer.{lowest}
+use Rattle.rules.specs.Down.{turned}
 
 -- ── Rule 24 ─────────────────────────────────────────────────────────────────────────────────
 
@@ -31,11 +32,6 @@ abbrev pub rule24 : Chip → Past → ℕ → Break
 rule24 C p t = let q = upTo (t - 1) p in lowest (λ n. late (C .most) (status C n q (t - 1)) t) 8
 
 -- ── Rule 25 ─────────────────────────────────────────────────────────────────────────────────
-
--- "after SRE up to and including SRX": the latest of the two is an SRE
-unfoldable pub asleep : Past → Bool
-asleep [] = false
-asleep (r ∷ p) = is Sre (r ∷ p) || (not (is Srx (r ∷ p)) && asleep p)
 
 -- "The awake clock counts edges from 1, but not those after SRE up to and including SRX": at the latest record, and at an edge t
 -- after it
@@ -59,3 +55,14 @@ owedAt T p t = owedTo T p + (awakeAt p t / T - awakeTo p / T)
 -- rule 25 at edge t of the recording p: "broken at 9 after the edge's command"; "25 the last REF or none"; "needed 8, found 9"
 abbrev pub rule25 : Chip → Past → ℕ → Break
 rule25 C p t = let q = upTo t p in cond (leb 17 (owedAt (C .trefi) q t)) (Broken 25 (number (latest (is Ref) q)) 8 9) Fine
+
+-- ── Rule 28 ─────────────────────────────────────────────────────────────────────────────────
+
+-- Q-1: "greatest stay nine times tREFI's clocks (a deadline shown as 24 is, partner the entry)": at t, of the latest change of CKE, s,
+-- one edge before
+abbrev pub stayed : (stay : ℕ) (s : Past) → ℕ → Break
+stayed m s t = cond (is Pde s && eqb (edge s + m + 1) t) (Broken 28 (number s) m (m + 1)) Fine
+
+-- rule 28 at edge t of the recording p
+abbrev pub rule28 : Chip → Past → ℕ → Break
+rule28 C p t = stayed (C .stay) (turned (upTo (t - 1) p)) t

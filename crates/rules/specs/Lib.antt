@@ -1,6 +1,7 @@
 pub mod Past
 pub mod Registers
 pub mod Banks
+pub mod Down
 pub mod Search
 pub mod Rules
 pub mod Deadlines

@@ -1,7 +1,7 @@
 -- A recording seen from one of its records: 01, "The recording", and the first paragraph of "Commands and the 25 rules".
 -- Assumes nothing.
 use Prim.Native.Nat.{ℕ, zero, suc, _+_, _≤_, _<_}
-use mathlib.Core.Bool.{Bool, true, false, cond, _||_}
+use mathlib.Core.Bool.{Bool, true, false, cond, not, _||_}
 use mathlib.Core.List.{List, [], _∷_, reverse}
 use mathlib.Core.Path.{_≡_}
 use lib.Dec.{eqb, leb}
@@ -9,7 +9,7 @@ use Rattle.records.specs.declared.Record.{Record}
 use Rattle.records.specs.declared.Command.{Command}
 use Rattle.records.specs.declared.Command.the-variants.{Wr, Rd, Nop}
 use Rattle.records.specs.Record.{records}
-use Rattle.records.specs.Command.{commandOf, isA, counts, a10, bankIn}
+use Rattle.records.specs.Command.{commandOf, asleepAfter, isA, counts, a10, bankIn}
 
 -- What was recorded so far, LATEST FIRST. An event is a past that is not empty: its head is a record, its tail all that came before it.
 abbrev pub Past : Type 0
@@ -42,10 +42,20 @@ abbrev pub cke : Past → Bool
 cke [] = true
 cke (r ∷ p) = r .cke
 
--- its command, by the CKE level before it and now
+-- CKE changes at it
+abbrev pub changes : Past → Bool
+changes [] = false
+changes (r ∷ p) = cond (cke p) (not (r .cke)) (r .cke)
+
+-- the part is asleep after it: CKE fell with 0001, an SRE, and has not risen
+unfoldable pub asleep : Past → Bool
+asleep [] = false
+asleep (r ∷ p) = asleepAfter (cke p) (asleep p) r
+
+-- its command, by the CKE level before it and now, and the latest fall
 abbrev pub command : Past → Command
 command [] = Nop
-command (r ∷ p) = commandOf (cke p) r
+command (r ∷ p) = commandOf (cke p) (asleep p) r
 
 -- its command is a k; there is none before the first record
 abbrev pub is : Command → Past → Bool

@@ -1,20 +1,21 @@
--- Rules 1 to 23, which a record breaks: 01, "Commands and the 25 rules", and the partners below it.
+-- The rules that a record breaks: 1 to 23 of 01, "Commands and the 25 rules", and the partners below it; 26, 27, 29 and 30 of 02, Q-1.
 -- Assumes nothing.
 use Prim.Native.Nat.{ℕ, _+_, _-_, max}
 use mathlib.Core.Bool.{Bool, true, false, cond, not, _&&_, _||_}
 use mathlib.Core.List.{List, [], _∷_}
 use Rattle.records.specs.declared.Record.{Record}
 use Rattle.records.specs.declared.Command.{Command}
-use Rattle.records.specs.declared.Command.the-variants.{Mrs, Ref, Pre, Act, Wr, Rd, Zq, Nop, Des, Sre, Srx, Low, Bad}
+use Rattle.records.specs.declared.Command.the-variants.{Mrs, Ref, Pre, Act, Wr, Rd, Zq, Nop, Des, Sre, Srx, Low, Bad, Pde, Pdx}
 use Rattle.records.specs.Command.{a10}
 use Rattle.registers.specs.Allowed.{badBit, allowed}
 use Rattle.chip.specs.declared.Chip.{Chip}
 use Rattle.answers.specs.declared.Bank.{Bank}
 use Rattle.answers.specs.declared.Break.{Break}
 use Rattle.answers.specs.declared.Break.the-variants.{Fine, Broken}
-use Rattle.rules.specs.Past.{Past, edge, number, command, is, anyCommand, column, bankOf, on, a10Of, latest, back, has, greatest}
-use Rattle.rules.specs.Registers.{dllReset, mr, al, cl, cwl, rl, wl, h, b}
+use Rattle.rules.specs.Past.{Past, edge, number, changes, command, is, anyCommand, column, bankOf, on, a10Of, latest, back, has, greatest}
+use Rattle.rules.specs.Registers.{dllReset, mr, al, cl, cwl, wr, rl, wl, h, b}
 use Rattle.rules.specs.Banks.{closes, shuts, isIdle, isOpen, notClosing, actNum, start, status}
+use Rattle.rules.specs.Down.{slowExit}
 use Rattle.answers.specs.Answer.{orElse, lowest}
 use Rattle.rules.specs.Search.{short, Spacing, least, row}
 
@@ -36,6 +37,8 @@ may Des k = true
 may Srx k = true
 may Low k = true
 may Bad k = true
+may Pde k = true
+may Pdx k = true
 
 -- the command speaks of a bank: a is A10, o that the bank is the record's own
 abbrev pub concerns : Command → (a o : Bool) → Bool
@@ -52,6 +55,8 @@ concerns Des a o = false
 concerns Srx a o = false
 concerns Low a o = false
 concerns Bad a o = false
+concerns Pde a o = false
+concerns Pdx a o = false
 
 -- a bank in the way: its ACT is the partner, "none for RD or WR on an idle bank"
 abbrev pub barred : Command → Bool → Bank → Break
@@ -61,7 +66,7 @@ barred c x k = cond x (cond (may c k) Fine (Broken 2 (actNum k) 0 0)) Fine
 abbrev pub demand : Bool → (found : ℕ) → Break
 demand x f = cond x Fine (Broken 3 0 0 f)
 
--- ── The words of rules 4 to 22 ──────────────────────────────────────────────────────────────
+-- ── The words of the spacings ───────────────────────────────────────────────────────────────
 
 -- an earlier event of the kind k: on any bank, on the later's, on one that the later covers
 abbrev pub anyBank : (k : Past → Bool) (later earlier : Past) → Bool
@@ -78,12 +83,12 @@ coveredBank k l s = k s && covered l s
 
 -- a name for each least spacing, after its rule: 12 has two, and 5 and 8 stand by themselves
 pub data Row : Type 0 where
-  r4 r6 r7 r9 r10 r11 r12r r12w r13 r14 r15 r16 r17 r18 r19 r20 r21 r22 : Row
+  r4 r6 r7 r9 r10 r11 r12r r12w r13 r14 r15 r16 r17 r18 r19 r20 r21 r22 r26 r27 r29 r30 : Row
 
 -- ── The rules, at the record r after the past p ─────────────────────────────────────────────
 
 module _ (C : Chip) where
-  -- "1 Any other CKE change."
+  -- "1 Any other CKE change."; Q-1: "rule 1 no longer covers this entry or exit"
   abbrev pub rule1 : Record → Past → Break
   rule1 r p = cond (is Bad (r ∷ p)) (Broken 1 0 0 0) Fine
 
@@ -98,6 +103,13 @@ module _ (C : Chip) where
       cond (is Mrs (r ∷ p)) (demand (allowed (C .header) (bankOf (r ∷ p)) (r .a)) (badBit (C .header) (bankOf (r ∷ p)) (r .a)))
       (cond (is Act (r ∷ p)) (demand (mr 0 p .written && (mr 1 p .written && (mr 2 p .written && mr 3 p .written))) 0)
       (cond (is Rd (r ∷ p)) (demand (has dllReset p) 0) Fine))
+
+  -- Q-1, "entry spacings from JESD79-3's power-down table as one rule": "from RD, RL + 5; from WR, WL + h + tWR, with auto precharge
+  -- WL + h + programmed WR + 1; from MRS, tMOD". The table's other rows ask one clock, which two records always have
+  unfoldable pub toEntry : Past → ℕ
+  toEntry s =
+      cond (is Rd s) (rl s + 5)
+      (cond (is Wr s) (cond (a10Of s) (wl s + h s + wr s + 1) (wl s + h s + C .twr)) (C .tmod))
 
   -- "Least spacings": rule, earlier record, later record, clocks
   abbrev pub spacing : Row → Spacing
@@ -136,6 +148,14 @@ module _ (C : Chip) where
   spacing r21 = least 21 (anyBank (is Srx)) anyCommand (λ _. C .txs)
   -- "22 SRE to SRX: tCKE + 1."
   spacing r22 = least 22 (anyBank (is Sre)) (is Srx) (λ _. C .tcke + 1)
+  -- Q-1, 26: "entry spacings .. as one rule"
+  spacing r26 = least 26 (anyBank (λ s. is Rd s || (is Wr s || is Mrs s))) (is Pde) toEntry
+  -- 27: "CKE held at least tCKE"
+  spacing r27 = least 27 (anyBank changes) changes (λ _. C .tcke)
+  -- 29: "exit to any command tXP"
+  spacing r29 = least 29 (anyBank (is Pdx)) anyCommand (λ _. C .txp)
+  -- 30: "after precharge power-down with MR0 A12 = 0, exit to RD"
+  spacing r30 = least 30 (anyBank (slowExit C)) (is Rd) (λ _. C .txpdll)
 
   abbrev pub spaced : Row → Record → Past → Break
   spaced x = row (spacing x)
@@ -167,13 +187,20 @@ module _ (C : Chip) where
       let s = latest (λ s. is Srx s || is Ref s) p in
       cond (is Sre (r ∷ p) && is Srx s) (Broken 23 (number s) 0 0) Fine
 
-  -- all of them, by number
+  -- rules 1 to 23, by number
   abbrev pub checks : List (Record → Past → Break)
   checks =
       rule1 ∷ rule2 ∷ rule3
       ∷ spaced r4 ∷ rule5 ∷ spaced r6 ∷ spaced r7 ∷ rule8 ∷ spaced r9 ∷ spaced r10 ∷ spaced r11 ∷ spaced r12r ∷ spaced r12w ∷ spaced r13 ∷ spaced r14
       ∷ spaced r15 ∷ spaced r16 ∷ spaced r17 ∷ spaced r18 ∷ spaced r19 ∷ spaced r20 ∷ spaced r21 ∷ spaced r22
       ∷ rule23 ∷ []
+
+  -- 26 and 27, at a change of CKE; 29 and 30, after an exit
+  abbrev pub changeChecks : List (Record → Past → Break)
+  changeChecks = spaced r26 ∷ spaced r27 ∷ []
+
+  abbrev pub exitChecks : List (Record → Past → Break)
+  exitChecks = spaced r29 ∷ spaced r30 ∷ []
 
 -- the first of the checks that the record r after the past p breaks
 abbrev pub breakAt : List (Record → Past → Break) → Record → Past → Break

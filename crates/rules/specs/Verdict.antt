@@ -17,8 +17,8 @@ use Rattle.answers.specs.Answer.{shownOf}
 use Rattle.rules.specs.Past.{Past, edge, number, upTo}
 use Rattle.rules.specs.Registers.{Register, mr}
 use Rattle.rules.specs.Banks.{status}
-use Rattle.rules.specs.Rules.{checks}
-use Rattle.rules.specs.Deadlines.{rule24, rule25, owedAt}
+use Rattle.rules.specs.Rules.{checks, changeChecks, exitChecks}
+use Rattle.rules.specs.Deadlines.{rule24, rule25, rule28, owedAt}
 
 -- ── An edge ─────────────────────────────────────────────────────────────────────────────────
 
@@ -47,7 +47,7 @@ abbrev pub recordSays : (f : Record → Past → Break) → Past → ℕ → Out
 recordSays f [] t = clean
 recordSays f (r ∷ p) t = cond (eqb (edge (r ∷ p)) t) (told t (number (r ∷ p)) (f r p)) (recordSays f p t)
 
--- what a rule says of edge t; "24 and 25: record none"
+-- what a rule says of edge t; "24 and 25: record none", and 28
 abbrev pub checkSays : Check → Past → ℕ → Outcome
 checkSays (ofRecord f) p t = recordSays f p t
 checkSays (deadline f) p t = told t 0 (f p t)
@@ -64,7 +64,9 @@ ofRecords (f ∷ fs) cs = ofRecord f ∷ ofRecords fs cs
 
 -- all rules by number, the deadlines in their place
 abbrev pub edgeChecks : Chip → List Check
-edgeChecks C = ofRecords (checks C) (deadline (rule24 C) ∷ deadline (rule25 C) ∷ [])
+edgeChecks C =
+    ofRecords (checks C)
+    (deadline (rule24 C) ∷ deadline (rule25 C) ∷ ofRecords (changeChecks C) (deadline (rule28 C) ∷ ofRecords (exitChecks C) []))
 
 -- the lowest rule broken at edge t
 unfoldable pub brokenAt : Chip → Past → ℕ → Outcome

@@ -12,7 +12,7 @@ use Rattle.answers.specs.declared.Bank.{Bank}
 use Rattle.answers.specs.declared.Bank.the-variants.{Idle, Open, Closing}
 use Rattle.records.specs.declared.Record.{Record}
 use Rattle.records.specs.declared.Command.{Command}
-use Rattle.records.specs.declared.Command.the-variants.{Mrs, Ref, Pre, Act, Wr, Rd, Zq, Nop, Des, Sre, Srx, Low, Bad}
+use Rattle.records.specs.declared.Command.the-variants.{Mrs, Ref, Pre, Act, Wr, Rd, Zq, Nop, Des, Sre, Srx, Low, Bad, Pde, Pdx}
 use Rattle.records.specs.Command.{isA, counts, a10, bankIn}
 use Rattle.registers.specs.Allowed.{badBit, allowed}
 use Rattle.chip.specs.declared.Chip.{Chip}
@@ -45,6 +45,8 @@ wants Sre = 1
 wants Srx = 0
 wants Low = 0
 wants Bad = 0
+wants Pde = 0
+wants Pdx = 0
 
 abbrev pub twoIf : Bool → (partner : ℕ) → Break
 twoIf x n = cond x (Broken 2 n 0 0) Fine

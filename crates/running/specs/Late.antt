@@ -1,7 +1,7 @@
 -- Deadlines: the edge at which one passes, and which of several is the sooner.
 -- Assumes nothing.
 use Prim.Native.Nat.{ℕ, zero, suc, _+_, _-_, _*_}
-use mathlib.Core.Bool.{cond, _&&_}
+use mathlib.Core.Bool.{Bool, cond, _&&_, _||_}
 use mathlib.Core.List.{List}
 use lib.Dec.{leb, ltb}
 use lib.ListN.{getD}
@@ -27,8 +27,13 @@ why x = Broken (x .rule) (x .partner) (x .needed) (x .found)
 unfoldable pub sooner : Late → Late → Late
 sooner x y = cond (leb (x .at) (y .at)) x y
 
-abbrev pub late24 : (at partner most : ℕ) → Late
-late24 at partner most = record { at = at; rule = 24; partner = partner; needed = most; found = most + 1 }
+-- rules 24 and 28: "needed its limit, found one more"
+abbrev pub lateBy : (rule at partner most : ℕ) → Late
+lateBy k at partner most = record { at = at; rule = k; partner = partner; needed = most; found = most + 1 }
+
+-- the edge at which a stay in power-down since the edge `at` is too long; hi where CKE is high or the part is asleep
+abbrev pub stayUntil : (level sleeps : Bool) (at stay hi : ℕ) → ℕ
+stayUntil l s at stay hi = cond (l || s) hi (at + stay + 1)
 
 abbrev pub late25 : (trefi : ℕ) → Debt → (partner edge hi : ℕ) → Late
 late25 trefi d partner edge hi =

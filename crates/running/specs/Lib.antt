@@ -1,5 +1,6 @@
 pub mod Marks
 pub mod Breaks
+pub mod Down
 pub mod Waits
 pub mod Next
 pub mod Late

@@ -5,7 +5,7 @@ use mathlib.Core.Bool.{Bool, cond, _&&_, _||_}
 use lib.Dec.{eqb, ltb}
 use Rattle.records.specs.declared.Record.{Record}
 use Rattle.records.specs.declared.Command.{Command}
-use Rattle.records.specs.declared.Command.the-variants.{Mrs, Pre, Wr, Rd}
+use Rattle.records.specs.declared.Command.the-variants.{Mrs, Pre, Wr, Rd, Sre, Srx, Pde, Pdx}
 use Rattle.records.specs.Command.{isA, a10, bankIn}
 use Rattle.codes.specs.Codes.{resets}
 use Rattle.chip.specs.declared.Chip.{Chip}
@@ -23,6 +23,10 @@ mark e n need = record { at = e; num = n; need = need }
 -- an MRS to the register k
 abbrev pub sets : ℕ → Command → Record → Bool
 sets k c r = isA Mrs c && eqb (bankIn r) k
+
+-- a change of CKE that is allowed
+abbrev pub changing : Command → Bool
+changing c = isA Sre c || (isA Srx c || (isA Pde c || isA Pdx c))
 
 -- an MRS to MR0 that resets the DLL
 abbrev pub resetsNow : Command → Record → Bool

@@ -45,13 +45,17 @@ pub struct Written {
     pub dll: bool,
 }
 
-// The latest REF (15), ZQ (18), DLL reset or SRX (20), SRX (21), SRE (22).
+// The latest REF (15), ZQ (18), DLL reset or SRX (20), SRX (21), SRE (22), change of CKE (27), power-down exit (29), and one of precharge
+// power-down with MR0 A12 = 0 (30).
 pub struct Rests {
     pub refreshed: Mark,
     pub tuned: Mark,
     pub reset: Mark,
     pub woke: Mark,
     pub slept: Mark,
+    pub turned: Mark,
+    pub left: Mark,
+    pub slow: Mark,
 }
 
 // Refresh debt: asleep or not, the awake clock's place within an interval, debt + 8.

@@ -6,9 +6,9 @@ use Rattle.laws.proofs.Unique.{Unique, one-answer}
 use Rattle.answers.specs.declared.Break.{Break}
 use Rattle.answers.specs.declared.Verdict.{Verdict}
 use Rattle.running.specs.declared.Late.{Late}
-use Rattle.running.specs.Late.{soonest, sooner, why, late24}
+use Rattle.running.specs.Late.{soonest, sooner, why, lateBy}
 use Rattle.running.specs.Said.{noVerdict, first, verdictAt, lateAt, cleanAt}
-use Rattle.says.specs.Contracts.{Soonest, Late24, Sooner, Why, First, LateAt, VerdictAt, None, CleanAt}
+use Rattle.says.specs.Contracts.{Soonest, LateBy, Sooner, Why, First, LateAt, VerdictAt, None, CleanAt}
 
 pub soonest-unique : (dues : List ℕ) (lo hi : ℕ) → Unique (Soonest dues lo hi)
 soonest-unique dues lo hi = one-answer (soonest dues lo hi 8)
@@ -16,8 +16,8 @@ soonest-unique dues lo hi = one-answer (soonest dues lo hi 8)
 pub sooner-unique : (x y : Late) → Unique (Sooner x y)
 sooner-unique x y = one-answer (sooner x y)
 
-pub late24-unique : (at partner most : ℕ) → Unique (Late24 at partner most)
-late24-unique at partner most = one-answer (late24 at partner most)
+pub late-by-unique : (rule at partner most : ℕ) → Unique (LateBy rule at partner most)
+late-by-unique rule at partner most = one-answer (lateBy rule at partner most)
 
 pub why-unique : (x : Late) → Unique (Why x)
 why-unique x = one-answer (why x)

@@ -8,16 +8,16 @@ use Rattle.answers.specs.declared.Break.{Break}
 use Rattle.answers.specs.declared.Verdict.{Verdict}
 use Rattle.running.specs.declared.Late.{Late}
 use Rattle.running.specs.declared.Pick.{Pick}
-use Rattle.running.specs.Late.{soonest, sooner, why, late24}
+use Rattle.running.specs.Late.{soonest, sooner, why, lateBy}
 use Rattle.running.specs.Said.{noVerdict, first, verdictAt, lateAt, cleanAt}
 
 -- `soonest`, of the eight banks
 abbrev pub Soonest : (dues : List ℕ) (lo hi : ℕ) (r : Pick) → Type 0
 Soonest dues lo hi r = r ≡ soonest dues lo hi 8
 
--- `late24`
-abbrev pub Late24 : (at partner most : ℕ) (r : Late) → Type 0
-Late24 at partner most r = r ≡ late24 at partner most
+-- `late_by`
+abbrev pub LateBy : (rule at partner most : ℕ) (r : Late) → Type 0
+LateBy rule at partner most r = r ≡ lateBy rule at partner most
 
 -- `sooner`
 abbrev pub Sooner : (x y : Late) (r : Late) → Type 0

@@ -4,7 +4,7 @@ use running::Late;
 use running::Pick;
 ghost use mathlib.Core.Path.{_≡_};
 ghost use Rattle.running.specs.Late as deadlines;
-ghost use Rattle.says.specs.Contracts.{Soonest, Late24, Sooner, Why};
+ghost use Rattle.says.specs.Contracts.{Soonest, LateBy, Sooner, Why};
 
 // The soonest due edge after lo and before hi, and its bank; hi where there is none.
 pub fn soonest(dues: [u64; 8], lo: u64, hi: u64) -> Pick
@@ -30,12 +30,13 @@ fn better(lo: u64, d: u64, b: u64, k: Pick) -> Pick
     k
 }
 
-pub fn late24(at: u64, partner: u32, most: u32) -> Late
-    ensures { λ x. ⌜ Late24 at partner most x ⌝ }
+// Of rules 24 and 28: needed its limit, found one more.
+pub fn late_by(rule: u64, at: u64, partner: u32, most: u32) -> Late
+    ensures { λ x. ⌜ LateBy rule at partner most x ⌝ }
 {
     Late {
         at: at,
-        rule: 24,
+        rule: rule,
         partner: partner as u64,
         needed: most as u64,
         found: most as u64 + 1,

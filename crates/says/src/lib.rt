@@ -2,7 +2,7 @@
 mod deadlines;
 mod says;
 
-pub use deadlines::late24;
+pub use deadlines::late_by;
 pub use deadlines::sooner;
 pub use deadlines::soonest;
 pub use deadlines::why;

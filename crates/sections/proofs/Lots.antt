@@ -17,7 +17,7 @@ use Rattle.chip.specs.Chip.{chipOf}
 use Rattle.judge.specs.declared.State.{State}
 use Rattle.running.specs.Ranges.{limit}
 use Rattle.judge.specs.Calls.{openOf, sectionOf}
-use Rattle.rules.specs.Past.{Past, edge, recording}
+use Rattle.rules.specs.Past.{Past, edge, asleep, recording}
 use Rattle.rules.proofs.Facts.{Sound}
 use Rattle.rules.proofs.Cutting.{length-records, number-all}
 use Rattle.sections.proofs.Never.{Short, short}
@@ -76,6 +76,7 @@ pub record OneLot (h : Header) (bs : List ℕ) (s : State) (t : Tally) : Type 0 
 pub lot-is-one :
     (header : List ℕ) (h : Header) → parsedOf header ≡ Taken h → (xss : List (List ℕ)) → AllTaken (openOf header .state) xss
     → OneLot h (uncut xss) (judgeRun (openOf header .state) xss) (run start xss)
+unfolding asleep
 lot-is-one header h e xss t = record {
   judged = judged;
   counted = counted;

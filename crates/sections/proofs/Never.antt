@@ -23,7 +23,7 @@ use Rattle.running.specs.Ranges.{limit, Small}
 use Rattle.edges.specs.declared.Rank.{Rank}
 use Rattle.edges.specs.Step.{stepOf, foldOf}
 use Rattle.edges.specs.Ranges.{Ranged}
-use Rattle.edges.specs.Ends.{freshBanks, freshActs, freshRank}
+use Rattle.edges.specs.Ends.{freshBanks, freshActs, freshDevice, freshRank}
 use Rattle.judge.specs.Ranges.{inRange}
 use Rattle.judge.specs.Calls.{holding, startOf, openedBy, openOf, refuse, take, sectionOf}
 use Rattle.header.proofs.Bounds.{bounds}
@@ -72,7 +72,7 @@ module _ (C : Chip) (small : Small C) where
 -- ── Opening and a section ───────────────────────────────────────────────────────────────────
 
 pub open-in-range : (bytes : List ℕ) → openOf bytes .refused ≡ 0 → inRange (openOf bytes .state) ≡ true
-unfolding freshRank freshBanks freshActs chipOf
+unfolding freshRank freshBanks freshActs freshDevice chipOf
 open-in-range bytes z =
     let w = opened-header bytes z in
     let h = w .0 in
@@ -83,6 +83,7 @@ open-in-range bytes z =
       debt = omega (arith, bounds h .refi);
       turn = omega arith;
       broke = omega arith;
+      turned = omega arith;
       acted = λ b l. rw (getD-replicate {A = ℕ} 8 b 0 0 l) (omega arith);
       ring = λ i l. rw (getD-replicate {A = ℕ} 4 i 0 0 l) (omega arith);
     })

@@ -72,9 +72,9 @@ fn fresh_device() -> Device
     ensures { λ r. ⌜ r ≡ ends.freshDevice ⌝ }
 {
     Device {
-        at: [0u64; 6],
-        no: [0u32; 6],
-        need: [0u32; 6],
+        at: [0u64; 9],
+        no: [0u32; 9],
+        need: [0u32; 9],
         codes: [0u16; 4],
         written: [false; 4],
     }

@@ -14,10 +14,12 @@ pub fn in_range(s: Rank) -> bool
 {
     let actat = s.banks.actat;
     let ring = s.acts.at;
+    let device = s.device.at;
     counted(s.count, s.edge)
         & (debt_ok(s.edge, s.debt)
             & ((s.acts.turn <= 3)
-                & ((s.first.edge <= 17592186044416) & (banks_ok(actat) & ring_ok(ring)))))
+                & ((s.first.edge <= 17592186044416)
+                    & (edge_ok(device[6]) & (banks_ok(actat) & ring_ok(ring))))))
 }
 
 pub fn is_small(chip: Chip) -> bool

@@ -21,8 +21,8 @@ start-unique = one-answer start
 pub section-unique : (t : Tally) (bytes : List ℕ) → Unique (TallySection t bytes)
 section-unique t bytes = one-answer (sectionOf t bytes)
 
-pub kind-unique : (before : Bool) (r : Record) → Unique (KindAt before r)
-kind-unique before r x y p q = one-answer (kindAt before r) x y (p .0) (q .0)
+pub kind-unique : (before asleep : Bool) (r : Record) → Unique (KindAt before asleep r)
+kind-unique before asleep r x y p q = one-answer (kindAt before asleep r) x y (p .0) (q .0)
 
 pub walk-unique : (limit : ℕ) → Unique (ReachedStart limit)
 walk-unique t = one-answer (found.start t)

@@ -13,24 +13,24 @@ use borrow.Author.Tests.{eqb-true, eq-eqb, ne-eqb}
 use Rattle.records.specs.declared.Record.{Record}
 use Rattle.records.specs.Command.{a10}
 use Rattle.records.specs.Record.{records}
-use Rattle.rules.specs.Past.{Past, number, cke, command, recording}
+use Rattle.rules.specs.Past.{Past, number, cke, asleep, command, recording}
 use Rattle.rules.proofs.Cutting.{length-records, number-all, recording-append}
 use Rattle.tally.specs.declared.Tally.{Tally}
 use Rattle.tally.specs.declared.Tallied.{Tallied}
 use Rattle.tally.specs.Kinds.{kindOf, kindAt}
 use Rattle.tally.specs.Tally.{start, stepOf, foldOf, largest, inRange, take, refuse, sectionOf}
-use Rattle.tally.specs.Counts.{countOf, seventeen, tallyOf, total}
+use Rattle.tally.specs.Counts.{countOf, nineteen, tallyOf, total}
 use Rattle.tally.proofs.Ranging.{in-range}
-use Rattle.tally.proofs.Seventeen.{kind-below, raised-at, at-seventeen, total-raised, below-total}
+use Rattle.tally.proofs.Nineteen.{kind-below, raised-at, at-nineteen, total-raised, below-total}
 use Rattle.tally.specs.Search.{uncut}
 
 -- ── Records ─────────────────────────────────────────────────────────────────────────────────
 
 -- a record more
 step-is : (p : Past) (r : Record) → stepOf (tallyOf p) r ≡ tallyOf (r ∷ p)
-unfolding stepOf kindAt
+unfolding stepOf kindAt asleep
 step-is p r =
-    ap (λ (ns : List ℕ). record { level = r .cke; counts = ns })
+    ap (λ (ns : List ℕ). record { level = r .cke; sleeps = asleep (r ∷ p); counts = ns })
     (raised-at (kindOf (command (r ∷ p)) (a10 r)) (kind-below (command (r ∷ p)) (a10 r)) (λ k. countOf k p))
 
 pub fold-is : (rs : List Record) (p : Past) → foldOf (tallyOf p) rs ≡ tallyOf (reverseAux rs p)
@@ -38,17 +38,17 @@ fold-is [] p = refl
 fold-is (r ∷ rs) p = rw (step-is p r) (fold-is rs (r ∷ p))
 
 pub start-is : start ≡ tallyOf []
-unfolding seventeen
+unfolding nineteen asleep
 start-is = refl
 
--- the seventeen counts sum to the number of records
+-- the nineteen counts sum to the number of records
 pub sum-is : (p : Past) → total (tallyOf p .counts) ≡ number p
-unfolding seventeen
+unfolding nineteen
 sum-is [] = refl
 sum-is (r ∷ p) =
     let k = kindOf (command (r ∷ p)) (a10 r) in
     let below = kind-below (command (r ∷ p)) (a10 r) in
-    ap total (sym (raised-at k below (λ j. countOf j p))) ∙ total-raised (seventeen (λ j. countOf j p)) k below ∙ ap (λ (n : ℕ). n + 1) (sum-is p)
+    ap total (sym (raised-at k below (λ j. countOf j p))) ∙ total-raised (nineteen (λ j. countOf j p)) k below ∙ ap (λ (n : ℕ). n + 1) (sum-is p)
 
 -- no count is larger than the number of records
 pub count-most : (p : Past) (k : ℕ) → getD (tallyOf p .counts) k 0 ≤ number p
@@ -137,7 +137,8 @@ stands-run (xs ∷ xss) bs t s = elim (ℕ-discrete (sectionOf t xs .refused) 0)
 -- of the recording of the bytes bs
 pub record Tells (bs : List ℕ) (t : Tally) : Type 0 where
   pub level : t .level ≡ cke (recording bs)
-  pub each : (k : ℕ) → k < 17 → getD (t .counts) k 0 ≡ countOf k (recording bs)
+  pub sleeps : t .sleeps ≡ asleep (recording bs)
+  pub each : (k : ℕ) → k < 19 → getD (t .counts) k 0 ≡ countOf k (recording bs)
   pub sum : total (t .counts) ≡ number (recording bs)
   pub number-is : number (recording bs) ≡ length bs / 6
   -- 17 is not given up to so many records
@@ -146,7 +147,8 @@ pub record Tells (bs : List ℕ) (t : Tally) : Type 0 where
 tells : (bs : List ℕ) (t : Tally) → Stands bs t → Tells bs t
 tells bs t s = record {
   level = ap (λ (u : Tally). u .level) (s .whole);
-  each = λ k h. ap (λ (u : Tally). getD (u .counts) k 0) (s .whole) ∙ at-seventeen (λ j. countOf j (recording bs)) k h;
+  sleeps = ap (λ (u : Tally). u .sleeps) (s .whole);
+  each = λ k h. ap (λ (u : Tally). getD (u .counts) k 0) (s .whole) ∙ at-nineteen (λ j. countOf j (recording bs)) k h;
   sum = ap (λ (u : Tally). total (u .counts)) (s .whole) ∙ sum-is (recording bs);
   number-is = count;
   refused = λ most xs. ap (λ (r : Tallied). r .refused) (section-by t xs) ∙ go xs (eqb (length xs % 6) 0) (ranged most);

@@ -14,7 +14,7 @@ use lib.Seq.{take-append-le, take-append-add}
 use borrow.Author.Tests.{ltb-true, ltb-false}
 use Rattle.records.specs.Record.{fieldsOf, records, recordAt}
 use Rattle.running.specs.Ranges.{limit}
-use Rattle.rules.specs.Past.{Past, number}
+use Rattle.rules.specs.Past.{Past, number, asleep}
 use Rattle.rules.proofs.Cutting.{records-append, number-all, reverse-append}
 use Rattle.rules.proofs.Generic.{decide}
 use Rattle.tally.specs.declared.Placed.{Placed}
@@ -179,12 +179,14 @@ module _ (t : ℕ) (files : List (List ℕ)) (cuts : List (List (List ℕ))) (c 
 
   -- each record is found where it stands
   pub search-is : (k : ℕ) → k < length (recordsOf true files) → findAll (k + 1) true (startOf t) cuts ≡ Here (numbered t files k)
+  unfolding asleep
   search-is k l =
       found-from t files cuts true [] 0 0 k (k + 1) c start-room l (omega arith)
       ∙ ap (λ (file : ℕ). Here (numberedFrom t [] true files k file)) (omega arith)
 
   -- and no other
   pub search-none : (n : ℕ) → length (recordsOf true files) < n → n < 18446744073709551616 → findAll n true (startOf t) cuts ≡ Elsewhere
+  unfolding asleep
   search-none n l m = none-from t files cuts true [] 0 0 n c start-room (omega (arith, l)) m
 
 -- ── Files whose sections all end between records ────────────────────────────────────────────

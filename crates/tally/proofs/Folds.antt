@@ -2,11 +2,13 @@
 -- Assumes nothing.
 use Prim.Native.Nat.{ℕ, _+_, _*_, _%_, _≤_, _<_}
 use native.Mathlib.Omega.{arith}
+use mathlib.Core.Bool.{Bool}
 use mathlib.Core.List.{List}
 use mathlib.Core.Path.{_≡_, refl}
 use lib.ListN.{length, drop, getD, set}
 use Rattle.records.specs.declared.Record.{Record}
 use Rattle.records.specs.Record.{records, recordAt}
+use Rattle.records.specs.Command.{asleepAfter}
 use Rattle.running.proofs.Sections.{at-step, at-end}
 use Rattle.laws.proofs.Eight.{at-set}
 use Rattle.tally.specs.declared.Tally.{Tally}
@@ -31,10 +33,10 @@ module _ (t : Tally) (bs : List ℕ) where
 
   module _ (n : Tally) (at : ℕ) (f : Folding t bs n at) (h : at < length bs) where
     pub fold-more :
-        (r : Record) (k : ℕ) → r ≡ recordAt bs at → k ≡ kindAt (n .level) r → (m : Tally)
-        → m ≡ record { level = r .cke; counts = set (n .counts) k (getD (n .counts) k 0 + 1) } → Folding t bs m (at + 6)
+        (r : Record) (k : ℕ) (z : Bool) → r ≡ recordAt bs at → k ≡ kindAt (n .level) (n .sleeps) r → z ≡ asleepAfter (n .level) (n .sleeps) r
+        → (m : Tally) → m ≡ record { level = r .cke; sleeps = z; counts = set (n .counts) k (getD (n .counts) k 0 + 1) } → Folding t bs m (at + 6)
     unfolding stepOf
-    fold-more r k e is m d =
+    fold-more r k z e is after m d =
         let le : at + 6 ≤ length bs = omega (arith, f .sixth, f .sixes) in
         record {
           within = omega arith;
@@ -42,5 +44,5 @@ module _ (t : Tally) (bs : List ℕ) where
           sixes = f .sixes;
           range = rw d (λ j. at-set (λ (x : ℕ). 6 * x ≤ 6 * largest + (at + 6)) 0 (n .counts) k (getD (n .counts) k 0 + 1) j
               (omega (arith, f .range k)) (omega (arith, f .range j)));
-          same = rw (d, is, e) (rw (at-step bs at le) at (f .same));
+          same = rw (d, is, after, e) (rw (at-step bs at le) at (f .same));
         }

@@ -1,7 +1,7 @@
 -- The loops, and what a tally says of a recording.
 pub mod Ranging
 pub mod Folds
-pub mod Seventeen
+pub mod Nineteen
 pub mod Cuts
 pub mod Walking
 pub mod Words

@@ -7,7 +7,7 @@ use mathlib.Core.List.{List, [], _∷_, reverseAux}
 use mathlib.Core.Path.{_≡_, refl, ap}
 use lib.Dec.{ltb}
 use Rattle.records.specs.declared.Record.{Record}
-use Rattle.rules.specs.Past.{Past, number, edge, latest}
+use Rattle.rules.specs.Past.{Past, number, edge, asleep, latest}
 use Rattle.tally.specs.declared.Reached.{Reached}
 use Rattle.tally.specs.Kinds.{kindAt}
 use Rattle.tally.specs.Walk.{start, wrapped, nextOf, foundOf, reachedOf, eventOf}
@@ -29,6 +29,7 @@ keeps n h = omega arith
 
 module _ (t : ℕ) where
   pub start-is : start t ≡ reachedOf t []
+  unfolding asleep
   start-is = refl
 
   module _ (r : Record) (p : Past) (h : Small (r ∷ p)) where
@@ -38,10 +39,10 @@ module _ (t : ℕ) where
     number-by false s q = refl
 
     pub next-is : nextOf (reachedOf t p) r ≡ reachedOf t (r ∷ p)
-    unfolding nextOf
+    unfolding nextOf asleep
     next-is =
         rw (keeps (number p + 1) (h .count), keeps (edge p + r .step) (h .last))
-        (ap (λ (n : ℕ). record { number = number (r ∷ p); edge = edge (r ∷ p); level = r .cke; limit = t; before = n })
+        (ap (λ (n : ℕ). record { number = number (r ∷ p); edge = edge (r ∷ p); level = r .cke; sleeps = asleep (r ∷ p); limit = t; before = n })
         (number-by (ltb (edge (r ∷ p)) t) (r ∷ p) (latest (λ s. ltb (edge s) t) p)))
 
     pub found-is : foundOf (reachedOf t p) r ≡ eventOf t r p

@@ -26,9 +26,9 @@ TallyStart r = r ≡ tally.start
 abbrev pub TallySection : (t : Tally) (bytes : List ℕ) (r : Tallied) → Type 0
 TallySection t bytes r = r ≡ tally.sectionOf t bytes
 
--- `kind_at`; it is one of the seventeen places of a tally
-abbrev pub KindAt : (level : Bool) (r : Record) (k : ℕ) → Type 0
-KindAt level r k = (k ≡ kindAt level r) × (k < 17)
+-- `kind_at`; it is one of the nineteen places of a tally
+abbrev pub KindAt : (level sleeps : Bool) (r : Record) (k : ℕ) → Type 0
+KindAt level sleeps r k = (k ≡ kindAt level sleeps r) × (k < 19)
 
 -- `Reached::start`
 abbrev pub ReachedStart : (limit : ℕ) (r : Reached) → Type 0

@@ -1,10 +1,10 @@
--- The kinds of records that are counted, a number each: 01, "Commands and the 25 rules", first paragraph.
+-- The kinds of records that are counted, a number each: 01, "Commands and the 25 rules", first paragraph; and 02, Q-1.
 -- Assumes nothing.
 use Prim.Native.Nat.{ℕ}
 use mathlib.Core.Bool.{Bool, cond}
 use Rattle.records.specs.declared.Record.{Record}
 use Rattle.records.specs.declared.Command.{Command}
-use Rattle.records.specs.declared.Command.the-variants.{Mrs, Ref, Pre, Act, Wr, Rd, Zq, Nop, Des, Sre, Srx, Low, Bad}
+use Rattle.records.specs.declared.Command.the-variants.{Mrs, Ref, Pre, Act, Wr, Rd, Zq, Nop, Des, Sre, Srx, Low, Bad, Pde, Pdx}
 use Rattle.records.specs.Command.{commandOf, a10}
 
 -- "PRE (A10: all banks)", "WR, RD (A10: auto precharge)", "ZQ (A10: long)"; REF and SRE are two
@@ -22,7 +22,9 @@ kindOf Sre x = 13
 kindOf Srx x = 14
 kindOf Low x = 15
 kindOf Bad x = 16
+kindOf Pde x = 17
+kindOf Pdx x = 18
 
--- a record's kind, by the CKE level before it
-unfoldable pub kindAt : (before : Bool) → Record → ℕ
-kindAt before r = kindOf (commandOf before r) (a10 r)
+-- a record's kind, by the CKE level before it, and whether the part was asleep
+unfoldable pub kindAt : (before asleep : Bool) → Record → ℕ
+kindAt before asleep r = kindOf (commandOf before asleep r) (a10 r)

@@ -8,13 +8,14 @@ use lib.Dec.{eqb, ltb}
 use lib.ListN.{length, replicate, getD, set}
 use Rattle.records.specs.declared.Record.{Record}
 use Rattle.records.specs.Record.{records}
+use Rattle.records.specs.Command.{asleepAfter}
 use Rattle.tally.specs.declared.Tally.{Tally}
 use Rattle.tally.specs.declared.Tallied.{Tallied}
 use Rattle.tally.specs.Kinds.{kindAt}
 
--- "CKE is high before the first record"; nothing is counted yet
+-- "CKE is high before the first record", and the part awake; nothing is counted yet
 abbrev pub start : Tally
-start = record { level = true; counts = replicate 17 0 }
+start = record { level = true; sleeps = false; counts = replicate 19 0 }
 
 -- one more of a kind
 abbrev pub raised : List ℕ → (kind : ℕ) → List ℕ
@@ -22,7 +23,11 @@ raised counts k = set counts k (getD counts k 0 + 1)
 
 -- a record more
 unfoldable pub stepOf : Tally → Record → Tally
-stepOf t r = record { level = r .cke; counts = raised (t .counts) (kindAt (t .level) r) }
+stepOf t r = record {
+  level = r .cke;
+  sleeps = asleepAfter (t .level) (t .sleeps) r;
+  counts = raised (t .counts) (kindAt (t .level) (t .sleeps) r);
+}
 
 -- records in turn
 abbrev pub foldOf : Tally → List Record → Tally

@@ -1,25 +1,21 @@
 -- A record of a list, where it stands and what it is: by a walk over the records, and by looking back over the recording.
 -- Assumes nothing.
 use Prim.Native.Nat.{ℕ, _+_, _%_}
-use mathlib.Core.Bool.{Bool, true, cond, not, _&&_}
+use mathlib.Core.Bool.{true, false, cond}
 use mathlib.Core.List.{_∷_}
-use lib.Dec.{ltb, leb}
+use lib.Dec.{ltb}
 use Rattle.records.specs.declared.Record.{Record}
-use Rattle.records.specs.Command.{a10}
-use Rattle.rules.specs.Past.{Past, number, edge, cke, command, latest}
+use Rattle.records.specs.Command.{asleepAfter, a10}
+use Rattle.rules.specs.Past.{Past, number, edge, cke, asleep, command, latest}
 use Rattle.tally.specs.declared.Reached.{Reached}
 use Rattle.tally.specs.declared.Found.{Found}
 use Rattle.tally.specs.Kinds.{kindOf, kindAt}
 
--- CKE falls with a NOP or a DES
-abbrev pub entersPowerDown : (before : Bool) → Record → Bool
-entersPowerDown before r = before && (not (r .cke) && leb 0b0111 (r .pins))
-
 -- ── By a walk ───────────────────────────────────────────────────────────────────────────────
 
--- "CKE is high before the first record"
+-- "CKE is high before the first record", and the part awake
 abbrev pub start : (limit : ℕ) → Reached
-start t = record { number = 0; edge = 0; level = true; limit = t; before = 0 }
+start t = record { number = 0; edge = 0; level = true; sleeps = false; limit = t; before = 0 }
 
 -- the walk's numbers have 64 bits
 abbrev pub wrapped : ℕ → ℕ
@@ -27,7 +23,14 @@ wrapped n = n % 18446744073709551616
 
 -- at a record with this number and edge
 abbrev pub reachedAt : (number edge : ℕ) → Reached → Record → Reached
-reachedAt n e s r = record { number = n; edge = e; level = r .cke; limit = s .limit; before = cond (ltb e (s .limit)) n (s .before) }
+reachedAt n e s r = record {
+  number = n;
+  edge = e;
+  level = r .cke;
+  sleeps = asleepAfter (s .level) (s .sleeps) r;
+  limit = s .limit;
+  before = cond (ltb e (s .limit)) n (s .before);
+}
 
 -- a record more
 unfoldable pub nextOf : Reached → Record → Reached
@@ -37,19 +40,19 @@ unfoldable pub foundOf : Reached → Record → Found
 foundOf s r = record {
   reached = nextOf s r;
   level = s .level;
-  kind = kindAt (s .level) r;
-  down = entersPowerDown (s .level) r;
+  kind = kindAt (s .level) (s .sleeps) r;
   fields = r;
 }
 
 -- ── By looking back ─────────────────────────────────────────────────────────────────────────
 
--- the latest record's number and edge and the level after it; how many stand before the edge `limit`
+-- the latest record's number and edge, the level after it, whether the part sleeps; how many stand before the edge `limit`
 abbrev pub reachedOf : (limit : ℕ) → Past → Reached
 reachedOf t p = record {
   number = number p;
   edge = edge p;
   level = cke p;
+  sleeps = asleep p;
   limit = t;
   before = number (latest (λ s. ltb (edge s) t) p);
 }
@@ -60,6 +63,5 @@ eventOf t r p = record {
   reached = reachedOf t (r ∷ p);
   level = cke p;
   kind = kindOf (command (r ∷ p)) (a10 r);
-  down = entersPowerDown (cke p) r;
   fields = r;
 }

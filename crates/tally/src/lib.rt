@@ -1,5 +1,5 @@
 // How many records of each command a recording has, carried over its sections as the judge's state is: 01, "Commands and the 25
-// rules", first paragraph. A count's place in the tally is the kind that `kind_of` gives. And where a record stands.
+// rules", first paragraph, and 02, Q-1. A count's place in the tally is the kind that `kind_of` gives. And where a record stands.
 mod places;
 mod refused;
 mod walk;
@@ -12,6 +12,7 @@ ghost use Prim.Native.Nat.{_+_, _≤_, _<_};
 ghost use mathlib.Core.Bool.{cond};
 ghost use lib.ListN.{length};
 ghost use Rattle.records.specs.Record.{records, recordAt};
+ghost use Rattle.records.specs.Command.{asleepAfter};
 ghost use Rattle.tally.specs.Kinds.{kindOf};
 ghost use Rattle.tally.specs.Tally as defs;
 ghost use Rattle.tally.specs.Contracts.{TallyStart, TallySection, KindAt};
@@ -19,10 +20,11 @@ ghost use Rattle.tally.specs.Contracts.{TallyStart, TallySection, KindAt
 // A count above this is refused: from there a sum could wrap.
 const LARGEST: u64 = 1152921504606846976;
 
-// The CKE level after the records so far, and the number of records of each kind.
+// The CKE level after the records so far, whether the part sleeps, and the number of records of each kind.
 pub struct Tally {
     pub level: bool,
-    pub counts: [u64; 17],
+    pub sleeps: bool,
+    pub counts: [u64; 19],
 }
 
 // refused is 0 or the number of the check that failed; then the tally is the one handed in.
@@ -31,22 +33,22 @@ pub struct Tallied {
     pub tally: Tally,
 }
 
-// How far a walk over the records has come: the number and the edge of the last, the CKE level after it, and how many stand before the edge
-// `limit`.
+// How far a walk over the records has come: the number and the edge of the last, the CKE level after it, whether the part sleeps, and how many
+// stand before the edge `limit`.
 pub struct Reached {
     pub number: u64,
     pub edge: u64,
     pub level: bool,
+    pub sleeps: bool,
     pub limit: u64,
     pub before: u64,
 }
 
-// A record: the walk up to it, the CKE level before it, its kind, whether it enters power-down, and its fields.
+// A record: the walk up to it, the CKE level before it, its kind, and its fields.
 pub struct Found {
     pub reached: Reached,
     pub level: bool,
     pub kind: usize,
-    pub down: bool,
     pub fields: Record,
 }
 
@@ -72,13 +74,14 @@ pub enum Sought {
 }
 
 impl Tally {
-    // No record yet: CKE is high.
+    // No record yet: CKE is high, and the part awake.
     pub fn start() -> Tally
         ensures { λ r. ⌜ TallyStart r ⌝ }
     {
-        let counts = [0u64; 17];
+        let counts = [0u64; 19];
         Tally {
             level: true,
+            sleeps: false,
             counts: counts,
         }
     }
@@ -112,11 +115,11 @@ fn refuse(n: u64, t: Tally) -> Tallied
 }
 
 // Is no count above the largest?
-fn in_range(counts: [u64; 17]) -> bool
+fn in_range(counts: [u64; 19]) -> bool
     ensures { λ r. ⌜ r ≡ defs.inRange counts ⌝ }
 {
     let mut i: usize = 0;
-    while i < 17 {
+    while i < 19 {
         if LARGEST < counts[i] {
             return false;
         }
@@ -133,8 +136,9 @@ fn fold(t: Tally, bytes: &[u8]) -> Tally
     let mut at: usize = 0;
     while at < bytes.len() {
         let r = record_at(bytes, at);
-        let k = kind_at(n.level, r);
+        let k = kind_at(n.level, n.sleeps, r);
         at += 6;
+        n.sleeps = sleeps_after(n.level, n.sleeps, r);
         n.level = r.cke;
         n.counts[k] = n.counts[k] + 1;
     }
@@ -155,17 +159,31 @@ fn record_at(bytes: &[u8], at: usize) -> Record
     )
 }
 
-// The kind of a record, by the CKE level before it.
-pub fn kind_at(level: bool, r: Record) -> usize
-    ensures { λ k. ⌜ KindAt level r k ⌝ }
+// Does the part sleep after a record? CKE fell with the pins of a REF, and has not risen.
+fn sleeps_after(level: bool, sleeps: bool, r: Record) -> bool
+    ensures { λ b. ⌜ b ≡ asleepAfter level sleeps r ⌝ }
 {
-    let c = records::command_of(level, r);
+    let pins = r.pins;
+    if r.cke {
+        return false;
+    }
+    if level {
+        return pins == 1;
+    }
+    sleeps
+}
+
+// The kind of a record, by the CKE level before it, and whether the part was asleep.
+pub fn kind_at(level: bool, sleeps: bool, r: Record) -> usize
+    ensures { λ k. ⌜ KindAt level sleeps r k ⌝ }
+{
+    let c = records::command_of(level, sleeps, r);
     kind_of(c, r.a / 1024 % 2 == 1)
 }
 
 // A command's place in the tally; A10 tells two kinds of PRE, WR, RD and ZQ apart.
 fn kind_of(c: Command, a10: bool) -> usize
-    ensures { λ k. ⌜ (k ≡ kindOf c a10) × (k < 17) ⌝ }
+    ensures { λ k. ⌜ (k ≡ kindOf c a10) × (k < 19) ⌝ }
 {
     match c {
         Command::Mrs => 0,
@@ -181,12 +199,14 @@ fn kind_of(c: Command, a10: bool) -> usize
         Command::Srx => 14,
         Command::Low => 15,
         Command::Bad => 16,
+        Command::Pde => 17,
+        Command::Pdx => 18,
     }
 }
 
 fn either(first: bool, a: usize, b: usize) -> usize
-    requires { ⌜ (a < 17) × (b < 17) ⌝ }
-    ensures { λ r. ⌜ (r ≡ cond first a b) × (r < 17) ⌝ }
+    requires { ⌜ (a < 19) × (b < 19) ⌝ }
+    ensures { λ r. ⌜ (r ≡ cond first a b) × (r < 19) ⌝ }
 {
     if first {
         return a;

@@ -2,6 +2,7 @@
 use crate::Found;
 use crate::Reached;
 use crate::kind_at;
+use crate::sleeps_after;
 use records::Record;
 ghost use mathlib.Core.Path.{_≡_};
 ghost use mathlib.Core.Bool.{cond};
@@ -9,7 +10,7 @@ ghost use lib.Dec.{ltb};
 ghost use Rattle.tally.specs.Contracts.{ReachedStart, ReachedNext, ReachedFound};
 
 impl Reached {
-    // No record yet: CKE is high.
+    // No record yet: CKE is high, and the part awake.
     pub fn start(limit: u64) -> Reached
         ensures { λ r. ⌜ ReachedStart limit r ⌝ }
     {
@@ -17,6 +18,7 @@ impl Reached {
             number: 0,
             edge: 0,
             level: true,
+            sleeps: false,
             limit: limit,
             before: 0,
         }
@@ -32,6 +34,7 @@ impl Reached {
             number: number,
             edge: edge,
             level: r.cke,
+            sleeps: sleeps_after(self.level, self.sleeps, r),
             limit: self.limit,
             before: earlier(edge, self.limit, number, self.before),
         }
@@ -45,8 +48,7 @@ impl Reached {
         Found {
             reached: n,
             level: self.level,
-            kind: kind_at(self.level, r),
-            down: self.level & (!r.cke & (7 <= r.pins)),
+            kind: kind_at(self.level, self.sleeps, r),
             fields: r,
         }
     }

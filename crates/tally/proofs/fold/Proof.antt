@@ -27,30 +27,39 @@ kind-at-requires c κs = search needs
 add-at : tie.Need-add-at Inv-loop μ-loop
 add-at c = let f = c .before .before .before .loop .inv in omega (arith, c .before .before .loop-test .taken, f .sixth, f .sixes)
 
+sleeps-after-requires : tie.Need-sleeps-after-requires Inv-loop μ-loop
+sleeps-after-requires c κs = search needs
+
 mul-n : tie.Need-mul-n Inv-loop μ-loop
-mul-n c = omega (arith, c .kind-at .ensures .1)
+mul-n c = omega (arith, c .before .kind-at .ensures .1)
 
 element-copy-out-n : tie.Need-element-copy-out-n Inv-loop μ-loop
-element-copy-out-n c = c .kind-at .ensures .1
+element-copy-out-n c = c .before .kind-at .ensures .1
 
 add-n : tie.Need-add-n Inv-loop μ-loop
-add-n c = let f = c .before .before .before .before .loop .inv in omega (arith, f .range (c .before .kind-at .result), f .within)
+add-n c =
+    let d = c .before .before in
+    let f = d .before .before .before .loop .inv in
+    omega (arith, f .range (d .kind-at .result), f .within)
 
 mul-n-2 : tie.Need-mul-n-2 Inv-loop μ-loop
-mul-n-2 c = omega (arith, c .before .kind-at .ensures .1)
+mul-n-2 c = omega (arith, c .before .before .kind-at .ensures .1)
 
 element-write-n : tie.Need-element-write-n Inv-loop μ-loop
-element-write-n c = c .before .kind-at .ensures .1
+element-write-n c = c .before .before .kind-at .ensures .1
 
 loop-less : tie.Need-loop-less Inv-loop μ-loop
-loop-less c = omega (arith, c .before .before .before .loop-test .taken)
+loop-less c = omega (arith, c .before .before .before .before .loop-test .taken)
 
 loop-again : tie.Need-loop-again Inv-loop μ-loop
 loop-again c =
-    let l = c .before .before .before .before .loop in
-    let k = c .before .kind-at in
-    let a = c .before .before .record-at in
-    fold-more _ _ (l .n) (l .at) (l .inv) (c .before .before .before .loop-test .taken) (a .result) (k .result) (a .ensures) (k .ensures .0) _ refl
+    let d = c .before .before .before in
+    let l = d .before .before .loop in
+    let k = c .before .before .kind-at in
+    let z = c .before .sleeps-after in
+    let a = d .record-at in
+    fold-more _ _ (l .n) (l .at) (l .inv) (d .before .loop-test .taken) (a .result) (k .result) (z .result) (a .ensures) (k .ensures .0) (z .ensures)
+    _ refl
 
 returns : tie.Need-returns Inv-loop μ-loop
 returns c = let l = c .before .loop in fold-end _ _ (l .n) (l .at) (l .inv) (c .loop-test .left)
@@ -65,6 +74,7 @@ fold-spec =
     record-at-requires
     kind-at-requires
     add-at
+    sleeps-after-requires
     mul-n
     element-copy-out-n
     add-n

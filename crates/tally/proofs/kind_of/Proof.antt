@@ -10,7 +10,7 @@ use Rattle.tally.proofs.kind_of.Statement.{statement}
 use Rattle.tally.proofs.kind_of.Tie as tie
 
 -- the answer for the command that the match found
-by-command : (a10 : Bool) {c d : Command} {k : ℕ} → c ≡ d → (k ≡ kindOf d a10) × (k < 17) → (k ≡ kindOf c a10) × (k < 17)
+by-command : (a10 : Bool) {c d : Command} {k : ℕ} → c ≡ d → (k ≡ kindOf d a10) × (k < 19) → (k ≡ kindOf c a10) × (k < 19)
 by-command a10 e h = rw e h
 
 enum-told : tie.Need-enum-told
@@ -64,6 +64,12 @@ enum-told-12 c = search needs
 enum-told-13 : tie.Need-enum-told-13
 enum-told-13 c = search needs
 
+enum-told-14 : tie.Need-enum-told-14
+enum-told-14 c = search needs
+
+enum-told-15 : tie.Need-enum-told-15
+enum-told-15 c = search needs
+
 returns : tie.Need-returns
 returns c = search needs
 
@@ -103,6 +109,12 @@ returns-12 c = search needs
 returns-13 : tie.Need-returns-13
 returns-13 c = search needs
 
+returns-14 : tie.Need-returns-14
+returns-14 c = search needs
+
+returns-15 : tie.Need-returns-15
+returns-15 c = search needs
+
 pub kind-of-spec : {M : Type 1} → statement M
 kind-of-spec =
     tie.close
@@ -124,6 +136,8 @@ kind-of-spec =
     enum-told-11
     enum-told-12
     enum-told-13
+    enum-told-14
+    enum-told-15
     returns
     returns-2
     returns-3
@@ -136,4 +150,6 @@ kind-of-spec =
     returns-10
     returns-11
     returns-12
-    returns-13)
+    returns-13
+    returns-14
+    returns-15)

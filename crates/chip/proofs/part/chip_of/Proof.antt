@@ -111,28 +111,49 @@ trefi-requires c κs = search needs
 plain-requires-17 : tie.Need-plain-requires-17
 plain-requires-17 c κs = rw (c .trefi .ensures) (omega (arith, bounds (c .before .before .before .before .before .before .before .before .before .before .before .before .before .before .before .before .before .before .before .before .before .before .before .before .before .before .before .before .before .before .before .before .before .args .h) .refi))
 
+txp-requires : tie.Need-txp-requires
+txp-requires c κs = search needs
+
+plain-requires-18 : tie.Need-plain-requires-18
+plain-requires-18 c κs = rw (c .txp .ensures) (omega (arith, bounds (c .before .before .before .before .before .before .before .before .before .before .before .before .before .before .before .before .before .before .before .before .before .before .before .before .before .before .before .before .before .before .before .before .before .before .before .args .h) .xp))
+
+txpdll-requires : tie.Need-txpdll-requires
+txpdll-requires c κs = search needs
+
+plain-requires-19 : tie.Need-plain-requires-19
+plain-requires-19 c κs = rw (c .txpdll .ensures) (omega (arith, bounds (c .before .before .before .before .before .before .before .before .before .before .before .before .before .before .before .before .before .before .before .before .before .before .before .before .before .before .before .before .before .before .before .before .before .before .before .before .before .args .h) .xpdll))
+
+mostdown-requires : tie.Need-mostdown-requires
+mostdown-requires c κs = search needs
+
+plain-requires-20 : tie.Need-plain-requires-20
+plain-requires-20 c κs = rw (c .mostdown .ensures) (omega (arith, bounds (c .before .before .before .before .before .before .before .before .before .before .before .before .before .before .before .before .before .before .before .before .before .before .before .before .before .before .before .before .before .before .before .before .before .before .before .before .before .before .before .args .h) .down))
+
 returns : tie.Need-returns
 unfolding chipOf
 returns c = λ i. record {
-  header = c .before .before .before .before .before .before .before .before .before .before .before .before .before .before .before .before .before .before .before .before .before .before .before .before .before .before .before .before .before .before .before .before .before .before .args .h;
-  trcd = (c .before .before .before .before .before .before .before .before .before .before .before .before .before .before .before .before .before .before .before .before .before .before .before .before .before .before .before .before .before .before .before .before .plain .ensures ∙ ap (λ (x : Clocks). x .clocks) (c .before .before .before .before .before .before .before .before .before .before .before .before .before .before .before .before .before .before .before .before .before .before .before .before .before .before .before .before .before .before .before .before .before .trcd .ensures)) i;
-  trp = (c .before .before .before .before .before .before .before .before .before .before .before .before .before .before .before .before .before .before .before .before .before .before .before .before .before .before .before .before .before .before .plain2 .ensures ∙ ap (λ (x : Clocks). x .clocks) (c .before .before .before .before .before .before .before .before .before .before .before .before .before .before .before .before .before .before .before .before .before .before .before .before .before .before .before .before .before .before .before .trp .ensures)) i;
-  trc = (c .before .before .before .before .before .before .before .before .before .before .before .before .before .before .before .before .before .before .before .before .before .before .before .before .before .before .before .before .plain3 .ensures ∙ ap (λ (x : Clocks). x .clocks) (c .before .before .before .before .before .before .before .before .before .before .before .before .before .before .before .before .before .before .before .before .before .before .before .before .before .before .before .before .before .trc .ensures)) i;
-  tras = (c .before .before .before .before .before .before .before .before .before .before .before .before .before .before .before .before .before .before .before .before .before .before .before .before .before .before .plain4 .ensures ∙ ap (λ (x : Clocks). x .clocks) (c .before .before .before .before .before .before .before .before .before .before .before .before .before .before .before .before .before .before .before .before .before .before .before .before .before .before .before .tras .ensures)) i;
-  trrd = (c .before .before .before .before .before .before .before .before .before .before .before .before .before .before .before .before .before .before .before .before .before .before .before .before .plain5 .ensures ∙ ap (λ (x : Clocks). x .clocks) (c .before .before .before .before .before .before .before .before .before .before .before .before .before .before .before .before .before .before .before .before .before .before .before .before .before .trrd .ensures)) i;
-  tfaw = (c .before .before .before .before .before .before .before .before .before .before .before .before .before .before .before .before .before .before .before .before .before .before .plain6 .ensures ∙ ap (λ (x : Clocks). x .clocks) (c .before .before .before .before .before .before .before .before .before .before .before .before .before .before .before .before .before .before .before .before .before .before .before .tfaw .ensures)) i;
-  tcke = (c .before .before .before .before .before .before .before .before .before .before .before .before .before .before .before .before .before .before .before .before .plain7 .ensures ∙ ap (λ (x : Clocks). x .clocks) (c .before .before .before .before .before .before .before .before .before .before .before .before .before .before .before .before .before .before .before .before .before .tcke .ensures)) i;
-  trtp = (c .before .before .before .before .before .before .before .before .before .before .before .before .before .before .before .before .before .before .plain8 .ensures ∙ ap (λ (x : Clocks). x .clocks) (c .before .before .before .before .before .before .before .before .before .before .before .before .before .before .before .before .before .before .before .trtp .ensures)) i;
-  twtr = (c .before .before .before .before .before .before .before .before .before .before .before .before .before .before .before .before .plain9 .ensures ∙ ap (λ (x : Clocks). x .clocks) (c .before .before .before .before .before .before .before .before .before .before .before .before .before .before .before .before .before .twtr .ensures)) i;
-  twr = (c .before .before .before .before .before .before .before .before .before .before .before .before .before .before .plain10 .ensures ∙ ap (λ (x : Clocks). x .clocks) (c .before .before .before .before .before .before .before .before .before .before .before .before .before .before .before .twr .ensures)) i;
-  tmod = (c .before .before .before .before .before .before .before .before .before .before .before .before .plain11 .ensures ∙ ap (λ (x : Clocks). x .clocks) (c .before .before .before .before .before .before .before .before .before .before .before .before .before .tmod .ensures)) i;
-  trfc = (c .before .before .before .before .before .before .before .before .before .before .plain12 .ensures ∙ ap (λ (x : Clocks). x .clocks) (c .before .before .before .before .before .before .before .before .before .before .before .trfc .ensures)) i;
-  txs = (c .before .before .before .before .before .before .before .before .plain13 .ensures ∙ ap (λ (x : Clocks). x .clocks) (c .before .before .before .before .before .before .before .before .before .txs .ensures)) i;
-  zqlong = (c .before .before .before .before .before .before .plain14 .ensures ∙ ap (λ (x : Clocks). x .clocks) (c .before .before .before .before .before .before .before .zqlong .ensures)) i;
-  zqshort = (c .before .before .before .before .plain15 .ensures ∙ ap (λ (x : Clocks). x .clocks) (c .before .before .before .before .before .zqshort .ensures)) i;
-  most = (c .before .before .plain16 .ensures ∙ ap (λ (x : Clocks). x .clocks) (c .before .before .before .mostras .ensures)) i;
-  trefi = (c .plain17 .ensures ∙ ap (λ (x : Clocks). x .clocks) (c .before .trefi .ensures)) i;
+  header = c .before .before .before .before .before .before .before .before .before .before .before .before .before .before .before .before .before .before .before .before .before .before .before .before .before .before .before .before .before .before .before .before .before .before .before .before .before .before .before .before .args .h;
+  trcd = (c .before .before .before .before .before .before .before .before .before .before .before .before .before .before .before .before .before .before .before .before .before .before .before .before .before .before .before .before .before .before .before .before .before .before .before .before .before .before .plain .ensures ∙ ap (λ (x : Clocks). x .clocks) (c .before .before .before .before .before .before .before .before .before .before .before .before .before .before .before .before .before .before .before .before .before .before .before .before .before .before .before .before .before .before .before .before .before .before .before .before .before .before .before .trcd .ensures)) i;
+  trp = (c .before .before .before .before .before .before .before .before .before .before .before .before .before .before .before .before .before .before .before .before .before .before .before .before .before .before .before .before .before .before .before .before .before .before .before .before .plain2 .ensures ∙ ap (λ (x : Clocks). x .clocks) (c .before .before .before .before .before .before .before .before .before .before .before .before .before .before .before .before .before .before .before .before .before .before .before .before .before .before .before .before .before .before .before .before .before .before .before .before .before .trp .ensures)) i;
+  trc = (c .before .before .before .before .before .before .before .before .before .before .before .before .before .before .before .before .before .before .before .before .before .before .before .before .before .before .before .before .before .before .before .before .before .before .plain3 .ensures ∙ ap (λ (x : Clocks). x .clocks) (c .before .before .before .before .before .before .before .before .before .before .before .before .before .before .before .before .before .before .before .before .before .before .before .before .before .before .before .before .before .before .before .before .before .before .before .trc .ensures)) i;
+  tras = (c .before .before .before .before .before .before .before .before .before .before .before .before .before .before .before .before .before .before .before .before .before .before .before .before .before .before .before .before .before .before .before .before .plain4 .ensures ∙ ap (λ (x : Clocks). x .clocks) (c .before .before .before .before .before .before .before .before .before .before .before .before .before .before .before .before .before .before .before .before .before .before .before .before .before .before .before .before .before .before .before .before .before .tras .ensures)) i;
+  trrd = (c .before .before .before .before .before .before .before .before .before .before .before .before .before .before .before .before .before .before .before .before .before .before .before .before .before .before .before .before .before .before .plain5 .ensures ∙ ap (λ (x : Clocks). x .clocks) (c .before .before .before .before .before .before .before .before .before .before .before .before .before .before .before .before .before .before .before .before .before .before .before .before .before .before .before .before .before .before .before .trrd .ensures)) i;
+  tfaw = (c .before .before .before .before .before .before .before .before .before .before .before .before .before .before .before .before .before .before .before .before .before .before .before .before .before .before .before .before .plain6 .ensures ∙ ap (λ (x : Clocks). x .clocks) (c .before .before .before .before .before .before .before .before .before .before .before .before .before .before .before .before .before .before .before .before .before .before .before .before .before .before .before .before .before .tfaw .ensures)) i;
+  tcke = (c .before .before .before .before .before .before .before .before .before .before .before .before .before .before .before .before .before .before .before .before .before .before .before .before .before .before .plain7 .ensures ∙ ap (λ (x : Clocks). x .clocks) (c .before .before .before .before .before .before .before .before .before .before .before .before .before .before .before .before .before .before .before .before .before .before .before .before .before .before .before .tcke .ensures)) i;
+  trtp = (c .before .before .before .before .before .before .before .before .before .before .before .before .before .before .before .before .before .before .before .before .before .before .before .before .plain8 .ensures ∙ ap (λ (x : Clocks). x .clocks) (c .before .before .before .before .before .before .before .before .before .before .before .before .before .before .before .before .before .before .before .before .before .before .before .before .before .trtp .ensures)) i;
+  twtr = (c .before .before .before .before .before .before .before .before .before .before .before .before .before .before .before .before .before .before .before .before .before .before .plain9 .ensures ∙ ap (λ (x : Clocks). x .clocks) (c .before .before .before .before .before .before .before .before .before .before .before .before .before .before .before .before .before .before .before .before .before .before .before .twtr .ensures)) i;
+  twr = (c .before .before .before .before .before .before .before .before .before .before .before .before .before .before .before .before .before .before .before .before .plain10 .ensures ∙ ap (λ (x : Clocks). x .clocks) (c .before .before .before .before .before .before .before .before .before .before .before .before .before .before .before .before .before .before .before .before .before .twr .ensures)) i;
+  tmod = (c .before .before .before .before .before .before .before .before .before .before .before .before .before .before .before .before .before .before .plain11 .ensures ∙ ap (λ (x : Clocks). x .clocks) (c .before .before .before .before .before .before .before .before .before .before .before .before .before .before .before .before .before .before .before .tmod .ensures)) i;
+  trfc = (c .before .before .before .before .before .before .before .before .before .before .before .before .before .before .before .before .plain12 .ensures ∙ ap (λ (x : Clocks). x .clocks) (c .before .before .before .before .before .before .before .before .before .before .before .before .before .before .before .before .before .trfc .ensures)) i;
+  txs = (c .before .before .before .before .before .before .before .before .before .before .before .before .before .before .plain13 .ensures ∙ ap (λ (x : Clocks). x .clocks) (c .before .before .before .before .before .before .before .before .before .before .before .before .before .before .before .txs .ensures)) i;
+  zqlong = (c .before .before .before .before .before .before .before .before .before .before .before .before .plain14 .ensures ∙ ap (λ (x : Clocks). x .clocks) (c .before .before .before .before .before .before .before .before .before .before .before .before .before .zqlong .ensures)) i;
+  zqshort = (c .before .before .before .before .before .before .before .before .before .before .plain15 .ensures ∙ ap (λ (x : Clocks). x .clocks) (c .before .before .before .before .before .before .before .before .before .before .before .zqshort .ensures)) i;
+  most = (c .before .before .before .before .before .before .before .before .plain16 .ensures ∙ ap (λ (x : Clocks). x .clocks) (c .before .before .before .before .before .before .before .before .before .mostras .ensures)) i;
+  trefi = (c .before .before .before .before .before .before .plain17 .ensures ∙ ap (λ (x : Clocks). x .clocks) (c .before .before .before .before .before .before .before .trefi .ensures)) i;
+  txp = (c .before .before .before .before .plain18 .ensures ∙ ap (λ (x : Clocks). x .clocks) (c .before .before .before .before .before .txp .ensures)) i;
+  txpdll = (c .before .before .plain19 .ensures ∙ ap (λ (x : Clocks). x .clocks) (c .before .before .before .txpdll .ensures)) i;
+  stay = (c .plain20 .ensures ∙ ap (λ (x : Clocks). x .clocks) (c .before .mostdown .ensures)) i;
 }
 
 pub chip-of-spec : {M : Type 1} → statement M
-chip-of-spec = tie.close (tie.spec trcd-requires plain-requires trp-requires plain-requires-2 trc-requires plain-requires-3 tras-requires plain-requires-4 trrd-requires plain-requires-5 tfaw-requires plain-requires-6 tcke-requires plain-requires-7 trtp-requires plain-requires-8 twtr-requires plain-requires-9 twr-requires plain-requires-10 tmod-requires plain-requires-11 trfc-requires plain-requires-12 txs-requires plain-requires-13 zqlong-requires plain-requires-14 zqshort-requires plain-requires-15 mostras-requires plain-requires-16 trefi-requires plain-requires-17 returns)
+chip-of-spec = tie.close (tie.spec trcd-requires plain-requires trp-requires plain-requires-2 trc-requires plain-requires-3 tras-requires plain-requires-4 trrd-requires plain-requires-5 tfaw-requires plain-requires-6 tcke-requires plain-requires-7 trtp-requires plain-requires-8 twtr-requires plain-requires-9 twr-requires plain-requires-10 tmod-requires plain-requires-11 trfc-requires plain-requires-12 txs-requires plain-requires-13 zqlong-requires plain-requires-14 zqshort-requires plain-requires-15 mostras-requires plain-requires-16 trefi-requires plain-requires-17 txp-requires plain-requires-18 txpdll-requires plain-requires-19 mostdown-requires plain-requires-20 returns)

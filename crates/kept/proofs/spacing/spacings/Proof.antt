@@ -73,6 +73,12 @@ enum-told-12 c = search needs
 enum-told-13 : tie.Need-enum-told-13
 enum-told-13 c = search needs
 
+enum-told-14 : tie.Need-enum-told-14
+enum-told-14 c = search needs
+
+enum-told-15 : tie.Need-enum-told-15
+enum-told-15 c = search needs
+
 returns : tie.Need-returns
 unfolding spacings
 returns c = c .of-mrs .ensures ∙ ap (λ (x : Command). spacings (c .before .before .before .args .chip) x (c .before .before .before .args .r) (c .before .before .before .args .e) (c .before .before .before .args .k) (c .before .before .before .args .s)) (sym (c .before .enum-told .given .1))
@@ -125,6 +131,14 @@ returns-13 : tie.Need-returns-13
 unfolding spacings
 returns-13 c = ap (λ (x : Command). spacings (c .before .before .args .chip) x (c .before .before .args .r) (c .before .before .args .e) (c .before .before .args .k) (c .before .before .args .s)) (sym (c .enum-told13 .given .1))
 
+returns-14 : tie.Need-returns-14
+unfolding spacings
+returns-14 c = ap (λ (x : Command). spacings (c .before .before .args .chip) x (c .before .before .args .r) (c .before .before .args .e) (c .before .before .args .k) (c .before .before .args .s)) (sym (c .enum-told14 .given .1))
+
+returns-15 : tie.Need-returns-15
+unfolding spacings
+returns-15 c = ap (λ (x : Command). spacings (c .before .before .args .chip) x (c .before .before .args .r) (c .before .before .args .e) (c .before .before .args .k) (c .before .before .args .s)) (sym (c .enum-told15 .given .1))
+
 pub spacings-spec : {M : Type 1} → statement M
 spacings-spec =
     tie.close
@@ -151,6 +165,8 @@ spacings-spec =
     of-srx-requires
     enum-told-12
     enum-told-13
+    enum-told-14
+    enum-told-15
     returns
     returns-2
     returns-3
@@ -163,4 +179,6 @@ spacings-spec =
     returns-10
     returns-11
     returns-12
-    returns-13)
+    returns-13
+    returns-14
+    returns-15)

@@ -6,10 +6,10 @@ use Rattle.lot.proofs.values.levels.Statement.{statement}
 use Rattle.lot.proofs.values.levels.Tie as tie
 
 abbrev Inv-loop : tie.InvT-loop
-Inv-loop x i₀ i = i ≤ 7
+Inv-loop x i₀ i = i ≤ 8
 
 abbrev μ-loop : tie.MeasureT-loop
-μ-loop x i₀ i = 7 - i
+μ-loop x i₀ i = 8 - i
 
 loop-holds : tie.Need-loop-holds Inv-loop μ-loop
 loop-holds c = search needs

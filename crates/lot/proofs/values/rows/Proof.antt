@@ -6,10 +6,10 @@ use Rattle.lot.proofs.values.rows.Statement.{statement}
 use Rattle.lot.proofs.values.rows.Tie as tie
 
 abbrev Inv-loop : tie.InvT-loop
-Inv-loop counts i₀ i = i ≤ 24
+Inv-loop counts i₀ i = i ≤ 28
 
 abbrev μ-loop : tie.MeasureT-loop
-μ-loop counts i₀ i = 24 - i
+μ-loop counts i₀ i = 28 - i
 
 loop-holds : tie.Need-loop-holds Inv-loop μ-loop
 loop-holds c = search needs

@@ -20,6 +20,9 @@ resets-now-requires c κs = search needs
 ask-requires : tie.Need-ask-requires
 ask-requires c κs = search needs
 
+woken-requires : tie.Need-woken-requires
+woken-requires c κs = search needs
+
 ask-requires-2 : tie.Need-ask-requires-2
 ask-requires-2 c κs = search needs
 
@@ -40,7 +43,7 @@ ask-requires-5 c κs = search needs
 
 returns : tie.Need-returns
 unfolding asksRd
-returns c = simp (c .ask5 .ensures, c .before .ask4 .ensures, c .before .before .ask3 .ensures, c .before .before .before .need14 .ensures, c .before .before .before .before .held .ensures, c .before .before .before .before .before .ask2 .ensures, c .before .before .before .before .before .before .ask .ensures, c .before .before .before .before .before .before .before .resets-now .ensures, c .before .before .before .before .before .before .before .before .need4 .ensures, c .before .before .before .before .before .before .before .before .before .al-of .ensures .0, c .before .before .before .before .before .before .before .before .before .before .before .rank-of .ensures)
+returns c = simp (c .ask5 .ensures, c .before .ask4 .ensures, c .before .before .ask3 .ensures, c .before .before .before .need14 .ensures, c .before .before .before .before .held .ensures, c .before .before .before .before .before .ask2 .ensures, c .before .before .before .before .before .before .woken .ensures, c .before .before .before .before .before .before .before .ask .ensures, c .before .before .before .before .before .before .before .before .resets-now .ensures, c .before .before .before .before .before .before .before .before .before .need4 .ensures, c .before .before .before .before .before .before .before .before .before .before .al-of .ensures .0, c .before .before .before .before .before .before .before .before .before .before .before .before .rank-of .ensures)
 
 pub asks-rd-spec : {M : Type 1} → statement M
 asks-rd-spec =
@@ -51,6 +54,7 @@ asks-rd-spec =
     need4-requires
     resets-now-requires
     ask-requires
+    woken-requires
     ask-requires-2
     held-requires
     need14-requires

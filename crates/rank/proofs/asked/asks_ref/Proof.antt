@@ -8,8 +8,8 @@ use Rattle.rank.proofs.asked.asks_ref.Tie as tie
 rank-of-requires : tie.Need-rank-of-requires
 rank-of-requires c κs = search needs
 
-ask-requires : tie.Need-ask-requires
-ask-requires c κs = search needs
+woken-requires : tie.Need-woken-requires
+woken-requires c κs = search needs
 
 held-requires : tie.Need-held-requires
 held-requires c κs = search needs
@@ -19,8 +19,8 @@ shut-asks-requires c κs = search needs
 
 returns : tie.Need-returns
 unfolding asksRef
-returns c = simp (c .shut-asks .ensures, c .before .held .ensures, c .before .before .ask .ensures, c .before .before .before .rank-of .ensures)
+returns c = simp (c .shut-asks .ensures, c .before .held .ensures, c .before .before .woken .ensures)
 
 pub asks-ref-spec : {M : Type 1} → statement M
 asks-ref-spec =
-    tie.close (tie.spec rank-of-requires ask-requires held-requires shut-asks-requires returns)
+    tie.close (tie.spec rank-of-requires woken-requires held-requires shut-asks-requires returns)

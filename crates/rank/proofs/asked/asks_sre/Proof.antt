@@ -8,14 +8,14 @@ use Rattle.rank.proofs.asked.asks_sre.Tie as tie
 rank-of-requires : tie.Need-rank-of-requires
 rank-of-requires c κs = search needs
 
-ask-requires : tie.Need-ask-requires
-ask-requires c κs = search needs
+woken-requires : tie.Need-woken-requires
+woken-requires c κs = search needs
 
 need19-requires : tie.Need-need19-requires
 need19-requires c κs = search needs
 
-ask-requires-2 : tie.Need-ask-requires-2
-ask-requires-2 c κs = search needs
+ask-requires : tie.Need-ask-requires
+ask-requires c κs = search needs
 
 held-requires : tie.Need-held-requires
 held-requires c κs = search needs
@@ -25,16 +25,16 @@ shut-asks-requires c κs = search needs
 
 returns : tie.Need-returns
 unfolding asksSre
-returns c = simp (c .shut-asks .ensures, c .before .held .ensures, c .before .before .ask2 .ensures, c .before .before .before .need19 .ensures, c .before .before .before .before .ask .ensures, c .before .before .before .before .before .rank-of .ensures)
+returns c = simp (c .shut-asks .ensures, c .before .held .ensures, c .before .before .ask .ensures, c .before .before .before .need19 .ensures, c .before .before .before .before .woken .ensures, c .before .before .before .before .before .rank-of .ensures)
 
 pub asks-sre-spec : {M : Type 1} → statement M
 asks-sre-spec =
     tie.close
     (tie.spec
     rank-of-requires
-    ask-requires
+    woken-requires
     need19-requires
-    ask-requires-2
+    ask-requires
     held-requires
     shut-asks-requires
     returns)

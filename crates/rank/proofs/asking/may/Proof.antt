@@ -1,3 +1,5 @@
+-- Command by command, what its own question says.
+-- Assumes nothing.
 use mathlib.Core.Bool.{false≢true}
 use borrow.Author.Tests.{leb-true}
 use Rattle.laws.proofs.Both.{both}
@@ -71,9 +73,6 @@ element-copy-out-result c = search needs
 element-copy-out-result-2 : tie.Need-element-copy-out-result-2
 element-copy-out-result-2 c = search needs
 
-enum-told-11 : tie.Need-enum-told-11
-enum-told-11 c = search needs
-
 element-copy-out-may-wake : tie.Need-element-copy-out-may-wake
 element-copy-out-may-wake c = search needs
 
@@ -83,11 +82,59 @@ element-copy-out-may-wake-2 c = search needs
 may-wake-requires : tie.Need-may-wake-requires
 may-wake-requires c κs = search needs
 
+enum-told-11 : tie.Need-enum-told-11
+enum-told-11 c = search needs
+
+element-copy-out-may-wake-3 : tie.Need-element-copy-out-may-wake-3
+element-copy-out-may-wake-3 c = search needs
+
+element-copy-out-may-wake-4 : tie.Need-element-copy-out-may-wake-4
+element-copy-out-may-wake-4 c = search needs
+
+may-wake-requires-2 : tie.Need-may-wake-requires-2
+may-wake-requires-2 c κs = search needs
+
+element-copy-out-may-wake-5 : tie.Need-element-copy-out-may-wake-5
+element-copy-out-may-wake-5 c = search needs
+
+element-copy-out-may-wake-6 : tie.Need-element-copy-out-may-wake-6
+element-copy-out-may-wake-6 c = search needs
+
+may-wake-requires-3 : tie.Need-may-wake-requires-3
+may-wake-requires-3 c κs = search needs
+
 enum-told-12 : tie.Need-enum-told-12
 enum-told-12 c = search needs
 
 enum-told-13 : tie.Need-enum-told-13
 enum-told-13 c = search needs
+
+enum-told-14 : tie.Need-enum-told-14
+enum-told-14 c = search needs
+
+may-enter-requires : tie.Need-may-enter-requires
+may-enter-requires c κs = search needs
+
+element-copy-out-may-wake-7 : tie.Need-element-copy-out-may-wake-7
+element-copy-out-may-wake-7 c = search needs
+
+element-copy-out-may-wake-8 : tie.Need-element-copy-out-may-wake-8
+element-copy-out-may-wake-8 c = search needs
+
+may-wake-requires-4 : tie.Need-may-wake-requires-4
+may-wake-requires-4 c κs = search needs
+
+enum-told-15 : tie.Need-enum-told-15
+enum-told-15 c = search needs
+
+element-copy-out-may-wake-9 : tie.Need-element-copy-out-may-wake-9
+element-copy-out-may-wake-9 c = search needs
+
+element-copy-out-may-wake-10 : tie.Need-element-copy-out-may-wake-10
+element-copy-out-may-wake-10 c = search needs
+
+may-wake-requires-5 : tie.Need-may-wake-requires-5
+may-wake-requires-5 c κs = search needs
 
 returns : tie.Need-returns
 returns c = λ h. rw (c .before .before .before .enum-told .given .1) (let u = both _ _ h in (c .before .may-rest .ensures (u .0), c .may-set .ensures (u .1) .0, c .may-set .ensures (u .1) .1))
@@ -117,16 +164,22 @@ returns-9 : tie.Need-returns-9
 returns-9 c = λ h. rw (c .enum-told9 .given .1) tt
 
 returns-10 : tie.Need-returns-10
-returns-10 c = λ h. rw (c .before .before .before .before .before .enum-told10 .given .1) (let u = both _ _ h in let v = both _ _ (u .1) in (c .before .before .before .may-rest4 .ensures (u .0), leb-true _ _ (v .0), leb-true _ _ (v .1)))
+returns-10 c = λ h. rw (c .before .before .before .before .before .before .before .before .enum-told10 .given .1) (let u = both _ _ h in let v = both _ _ (u .1) in let w = both _ _ (v .1) in (c .before .before .before .before .before .before .may-rest4 .ensures (u .0), leb-true _ _ (v .0), leb-true _ _ (w .0), c .may-wake .ensures (w .1)))
 
 returns-11 : tie.Need-returns-11
-returns-11 c = λ h. rw (c .before .before .before .enum-told11 .given .1) (c .may-wake .ensures h)
+returns-11 c = λ h. rw (c .before .before .before .before .before .before .enum-told11 .given .1) (let u = both _ _ h in (c .before .before .before .may-wake2 .ensures (u .0), c .may-wake3 .ensures (u .1)))
 
 returns-12 : tie.Need-returns-12
 returns-12 c = λ h. rw (c .enum-told12 .given .1) tt
 
 returns-13 : tie.Need-returns-13
 returns-13 c = λ h. absurd (false≢true h)
+
+returns-14 : tie.Need-returns-14
+returns-14 c = λ h. rw (c .before .before .before .before .enum-told14 .given .1) (let u = both _ _ h in (c .before .before .before .may-enter .ensures (u .0), c .may-wake4 .ensures (u .1)))
+
+returns-15 : tie.Need-returns-15
+returns-15 c = λ h. rw (c .before .before .before .enum-told15 .given .1) (c .may-wake5 .ensures h)
 
 pub may-spec : {M : Type 1} → statement M
 may-spec =
@@ -154,12 +207,27 @@ may-spec =
     may-rest-requires-4
     element-copy-out-result
     element-copy-out-result-2
-    enum-told-11
     element-copy-out-may-wake
     element-copy-out-may-wake-2
     may-wake-requires
+    enum-told-11
+    element-copy-out-may-wake-3
+    element-copy-out-may-wake-4
+    may-wake-requires-2
+    element-copy-out-may-wake-5
+    element-copy-out-may-wake-6
+    may-wake-requires-3
     enum-told-12
     enum-told-13
+    enum-told-14
+    may-enter-requires
+    element-copy-out-may-wake-7
+    element-copy-out-may-wake-8
+    may-wake-requires-4
+    enum-told-15
+    element-copy-out-may-wake-9
+    element-copy-out-may-wake-10
+    may-wake-requires-5
     returns
     returns-2
     returns-3
@@ -172,4 +240,6 @@ may-spec =
     returns-10
     returns-11
     returns-12
-    returns-13)
+    returns-13
+    returns-14
+    returns-15)

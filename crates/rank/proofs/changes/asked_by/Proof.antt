@@ -46,6 +46,12 @@ enum-told-12 c = search needs
 enum-told-13 : tie.Need-enum-told-13
 enum-told-13 c = search needs
 
+enum-told-14 : tie.Need-enum-told-14
+enum-told-14 c = search needs
+
+enum-told-15 : tie.Need-enum-told-15
+enum-told-15 c = search needs
+
 returns : tie.Need-returns
 returns c = rw (c .enum-told .given .1)
 
@@ -85,6 +91,12 @@ returns-12 c = rw (c .enum-told12 .given .1)
 returns-13 : tie.Need-returns-13
 returns-13 c = rw (c .enum-told13 .given .1)
 
+returns-14 : tie.Need-returns-14
+returns-14 c = rw (c .enum-told14 .given .1)
+
+returns-15 : tie.Need-returns-15
+returns-15 c = rw (c .enum-told15 .given .1)
+
 pub asked-by-spec : {M : Type 1} → statement M
 asked-by-spec =
     tie.close
@@ -103,6 +115,8 @@ asked-by-spec =
     enum-told-11
     enum-told-12
     enum-told-13
+    enum-told-14
+    enum-told-15
     returns
     returns-2
     returns-3
@@ -115,4 +129,6 @@ asked-by-spec =
     returns-10
     returns-11
     returns-12
-    returns-13)
+    returns-13
+    returns-14
+    returns-15)

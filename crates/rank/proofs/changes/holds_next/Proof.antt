@@ -65,6 +65,15 @@ enum-told-12 c = search needs
 enum-told-13 : tie.Need-enum-told-13
 enum-told-13 c = search needs
 
+enum-told-14 : tie.Need-enum-told-14
+enum-told-14 c = search needs
+
+enum-told-15 : tie.Need-enum-told-15
+enum-told-15 c = search needs
+
+held-to-requires-5 : tie.Need-held-to-requires-5
+held-to-requires-5 c κs = search needs
+
 returns : tie.Need-returns
 returns c = rw (c .before .enum-told .given .1) (λ C r q. c .held-to .ensures ∙ ap (λ (x : ℕ). heldTo (c .before .before .before .args .h) (c .before .before .before .args .e + x) (c .before .before .before .args .e + 4)) q)
 
@@ -104,6 +113,12 @@ returns-12 c = rw (c .enum-told12 .given .1) (λ C r q. refl)
 returns-13 : tie.Need-returns-13
 returns-13 c = rw (c .enum-told13 .given .1) (λ C r q. refl)
 
+returns-14 : tie.Need-returns-14
+returns-14 c = rw (c .enum-told14 .given .1) (λ C r q. refl)
+
+returns-15 : tie.Need-returns-15
+returns-15 c = rw (c .before .enum-told15 .given .1) (λ C r q. c .held-to5 .ensures ∙ ap (λ (x : ℕ). heldTo (c .before .before .before .args .h) (c .before .before .before .args .e + x) (c .before .before .before .args .e + x)) q)
+
 pub holds-next-spec : {M : Type 1} → statement M
 holds-next-spec =
     tie.close
@@ -127,6 +142,9 @@ holds-next-spec =
     held-to-requires-4
     enum-told-12
     enum-told-13
+    enum-told-14
+    enum-told-15
+    held-to-requires-5
     returns
     returns-2
     returns-3
@@ -139,4 +157,6 @@ holds-next-spec =
     returns-10
     returns-11
     returns-12
-    returns-13)
+    returns-13
+    returns-14
+    returns-15)

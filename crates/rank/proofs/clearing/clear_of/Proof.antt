@@ -1,19 +1,25 @@
--- The sooner of the banks' deadlines, one after the other, and of the debt's.
+-- The sooner of the banks' deadlines, one after the other, of the debt's and of the stay's.
 -- Assumes nothing.
-use Prim.Native.Nat.{_-_}
+use Prim.Native.Nat.{ℕ, _-_, _≤_}
 use native.Mathlib.Omega.{arith}
+use mathlib.Core.Bool.{Bool}
 use mathlib.Core.Logic.{inl, inr}
 use borrow.Author.Needs.{needs}
-use Rattle.edges.specs.Clearing.{ClearTo}
+use Rattle.edges.specs.Clearing.{ClearTo, Staying}
 use Rattle.edges.proofs.Clearing.{clear-start, clear-next, clear-end}
 use Rattle.rank.proofs.clearing.clear_of.Statement.{statement}
 use Rattle.rank.proofs.clearing.clear_of.Tie as tie
 
+sooner-too : (l z : Bool) (at stay x y : ℕ) → Staying l z at stay x → y ≤ x → Staying l z at stay y
+sooner-too l z at stay x y (inl p) h = inl p
+sooner-too l z at stay x y (inr (inl p)) h = inr (inl p)
+sooner-too l z at stay x y (inr (inr p)) h = inr (inr (omega arith))
+
 abbrev Inv-loop : tie.InvT-loop
-Inv-loop actat actno shutat shutno most edge d x₀ b₀ x b = ClearTo most actat actno shutat shutno edge x b
+Inv-loop actat actno shutat shutno most edge d level at stay x₀ b₀ x b = ClearTo most actat actno shutat shutno edge x b
 
 abbrev μ-loop : tie.MeasureT-loop
-μ-loop actat actno shutat shutno most edge d x₀ b₀ x b = 8 - b
+μ-loop actat actno shutat shutno most edge d level at stay x₀ b₀ x b = 8 - b
 
 add-x : tie.Need-add-x Inv-loop μ-loop
 add-x c = search needs
@@ -49,7 +55,7 @@ element-copy-out-next-due-4 : tie.Need-element-copy-out-next-due-4 Inv-loop μ-l
 element-copy-out-next-due-4 c = search needs
 
 next-due-requires : tie.Need-next-due-requires Inv-loop μ-loop
-next-due-requires c κs = c .before .before .before .before .before .before .pre .1 _ (c .before .before .before .before .loop-test .taken)
+next-due-requires c κs = c .before .before .before .before .before .before .pre .1 .1 _ (c .before .before .before .before .loop-test .taken)
 
 add-b : tie.Need-add-b Inv-loop μ-loop
 add-b c = search needs
@@ -60,14 +66,42 @@ loop-less c = omega (arith, c .before .before .before .before .before .loop-test
 loop-again : tie.Need-loop-again Inv-loop μ-loop
 loop-again c = let r = c .next-due .ensures in clear-next _ _ _ _ _ _ _ _ (c .before .before .before .before .before .before .loop .inv) (c .next-due .result) (c .before .before .before .before .before .loop-test .taken) (r .0) (r .1)
 
+stay-of-requires : tie.Need-stay-of-requires Inv-loop μ-loop
+stay-of-requires c κs = search needs
+
+owing-of-requires : tie.Need-owing-of-requires Inv-loop μ-loop
+owing-of-requires c κs = search needs
+
 returns : tie.Need-returns Inv-loop μ-loop
-returns c = let h = c .before .before .loop .inv in (clear-end _ _ _ _ _ _ _ _ h _ (omega (arith, c .before .loop-test .left)) (omega arith), (h .near, inl (c .if1 .taken)))
-
-least-of-requires : tie.Need-least-of-requires Inv-loop μ-loop
-least-of-requires c κs = search needs
-
-returns-2 : tie.Need-returns-2 Inv-loop μ-loop
-returns-2 c = let h = c .before .before .before .loop .inv in let l = c .least-of .ensures in (clear-end _ _ _ _ _ _ _ _ h _ (omega (arith, c .before .before .loop-test .left)) (omega (arith, l)), (omega (arith, l, h .near), inr (omega (arith, l))))
+returns c =
+    let h = c .before .before .before .loop .inv in
+    let o = c .owing-of .ensures in
+    let s = c .before .stay-of .ensures in (
+      clear-end _ _ _ _ _ _ _ _ h _ (omega (arith, c .before .before .loop-test .left)) (omega (arith, o .1, s .1)),
+      (omega (arith, h .near, o .1, s .1), (o .0, sooner-too _ _ _ _ _ _ (s .0) (o .1))),
+    )
 
 pub clear-of-spec : {M : Type 1} → statement M
-clear-of-spec = tie.close (tie.spec Inv-loop μ-loop add-x add-x-2 loop-holds mul-next-due element-copy-out-next-due mul-next-due-2 element-copy-out-next-due-2 mul-next-due-3 element-copy-out-next-due-3 mul-next-due-4 element-copy-out-next-due-4 next-due-requires add-b loop-less loop-again returns least-of-requires returns-2)
+clear-of-spec =
+    tie.close
+    (tie.spec
+    Inv-loop
+    μ-loop
+    add-x
+    add-x-2
+    loop-holds
+    mul-next-due
+    element-copy-out-next-due
+    mul-next-due-2
+    element-copy-out-next-due-2
+    mul-next-due-3
+    element-copy-out-next-due-3
+    mul-next-due-4
+    element-copy-out-next-due-4
+    next-due-requires
+    add-b
+    loop-less
+    loop-again
+    stay-of-requires
+    owing-of-requires
+    returns)

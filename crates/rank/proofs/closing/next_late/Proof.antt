@@ -1,4 +1,4 @@
--- Of the two deadlines the sooner.
+-- Of the three deadlines the soonest.
 -- Assumes nothing.
 use Rattle.edges.specs.Ends.{nextLate}
 use borrow.Author.Needs.{needs}
@@ -14,13 +14,35 @@ array-read-next25 c = search needs
 next25-requires : tie.Need-next25-requires
 next25-requires c κs = search needs
 
+array-read-next28 : tie.Need-array-read-next28
+array-read-next28 c = search needs
+
+array-read-next28-2 : tie.Need-array-read-next28-2
+array-read-next28-2 c = search needs
+
+next28-requires : tie.Need-next28-requires
+next28-requires c κs = search needs
+
 sooner-requires : tie.Need-sooner-requires
 sooner-requires c κs = search needs
 
+sooner-requires-2 : tie.Need-sooner-requires-2
+sooner-requires-2 c κs = search needs
+
 returns : tie.Need-returns
 unfolding nextLate
-returns c = simp (c .sooner .ensures, c .before .next25 .ensures, c .before .before .next24 .ensures)
+returns c = simp (c .sooner2 .ensures, c .before .sooner .ensures, c .before .before .next28 .ensures, c .before .before .before .next25 .ensures, c .before .before .before .before .next24 .ensures)
 
 pub next-late-spec : {M : Type 1} → statement M
 next-late-spec =
-    tie.close (tie.spec next24-requires array-read-next25 next25-requires sooner-requires returns)
+    tie.close
+    (tie.spec
+    next24-requires
+    array-read-next25
+    next25-requires
+    array-read-next28
+    array-read-next28-2
+    next28-requires
+    sooner-requires
+    sooner-requires-2
+    returns)

@@ -22,10 +22,10 @@ stamp-requires-2 : tie.Need-stamp-requires-2
 stamp-requires-2 c κs = search needs
 
 returns : tie.Need-returns
-returns c = λ C. let s = c .before .before .before .before .before .before .before .before .before .stamp .ensures in let p = c .before .before .before .before .before .before .put .ensures in let t = c .stamp2 .ensures in dev-reset C _ _ _ _ (s .0) (s .1 .0) (s .1 .1) (p .0) (p .1) (t .0) (t .1 .0) (t .1 .1) (sym (c .before .before .before .before .before .resets .ensures) ∙ c .before .before .before .before .if1 .taken)
+returns c = λ C slow. let s = c .before .before .before .before .before .before .before .before .before .stamp .ensures in let p = c .before .before .before .before .before .before .put .ensures in let t = c .stamp2 .ensures in dev-reset C _ _ _ slow _ (s .0) (s .1 .0) (s .1 .1) (p .0) (p .1) (t .0) (t .1 .0) (t .1 .1) (sym (c .before .before .before .before .before .resets .ensures) ∙ c .before .before .before .before .if1 .taken)
 
 returns-2 : tie.Need-returns-2
-returns-2 c = λ C. let s = c .before .before .before .before .before .stamp .ensures in let p = c .before .before .put .ensures in dev-mrs C _ _ _ _ (s .0) (s .1 .0) (s .1 .1) (p .0) (p .1) (sym (c .before .resets .ensures) ∙ c .if1 .left)
+returns-2 c = λ C slow. let s = c .before .before .before .before .before .stamp .ensures in let p = c .before .before .put .ensures in dev-mrs C _ _ _ slow _ (s .0) (s .1 .0) (s .1 .1) (p .0) (p .1) (sym (c .before .resets .ensures) ∙ c .if1 .left)
 
 pub moded-spec : {M : Type 1} → statement M
 moded-spec =

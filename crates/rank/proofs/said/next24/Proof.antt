@@ -14,18 +14,18 @@ dues-of-requires c κs = search needs
 soonest-requires : tie.Need-soonest-requires
 soonest-requires c κs = search needs
 
-mul-late24 : tie.Need-mul-late24
-mul-late24 c = let h : c .soonest .result .bank < 8 = rw (c .soonest .ensures) (soonest-bank _ _ _) in omega arith
+mul-late-by : tie.Need-mul-late-by
+mul-late-by c = let h : c .soonest .result .bank < 8 = rw (c .soonest .ensures) (soonest-bank _ _ _) in omega arith
 
-array-read-late24 : tie.Need-array-read-late24
-array-read-late24 c = rw (c .soonest .ensures) (soonest-bank _ _ _)
+array-read-late-by : tie.Need-array-read-late-by
+array-read-late-by c = rw (c .soonest .ensures) (soonest-bank _ _ _)
 
-late24-requires : tie.Need-late24-requires
-late24-requires c κs = search needs
+late-by-requires : tie.Need-late-by-requires
+late-by-requires c κs = search needs
 
 returns : tie.Need-returns
 unfolding next24
-returns c = simp (c .late24 .ensures, c .before .soonest .ensures, c .before .before .dues-of .ensures)
+returns c = simp (c .late-by .ensures, c .before .soonest .ensures, c .before .before .dues-of .ensures)
 
 pub next24-spec : {M : Type 1} → statement M
 next24-spec =
@@ -33,7 +33,7 @@ next24-spec =
     (tie.spec
     dues-of-requires
     soonest-requires
-    mul-late24
-    array-read-late24
-    late24-requires
+    mul-late-by
+    array-read-late-by
+    late-by-requires
     returns)

@@ -27,14 +27,32 @@ add-next25 c = search needs
 next25-requires : tie.Need-next25-requires
 next25-requires c κs = search needs
 
-broken-in-requires : tie.Need-broken-in-requires
-broken-in-requires c κs = search needs
+array-read-next28 : tie.Need-array-read-next28
+array-read-next28 c = search needs
 
-add-says-by : tie.Need-add-says-by
-add-says-by c = omega (arith, c .before .before .before .before .before .before .before .before .pre .1 .1 .1)
+array-read-next28-2 : tie.Need-array-read-next28-2
+array-read-next28-2 c = search needs
+
+add-next28 : tie.Need-add-next28
+add-next28 c = search needs
+
+next28-requires : tie.Need-next28-requires
+next28-requires c κs = search needs
+
+broken-in-requires : tie.Need-broken-in-requires
+broken-in-requires c κs = (c .before .before .before .before .before .before .before .before .pre .1 .0 .turn, c .before .before .before .command-of .ensures)
 
 owing-requires : tie.Need-owing-requires
 owing-requires c κs = search needs
+
+changed-in-requires : tie.Need-changed-in-requires
+changed-in-requires c κs = (c .before .before .before .before .before .before .before .before .before .before .pre .1 .0 .turn, c .before .before .before .before .before .command-of .ensures)
+
+left-in-requires : tie.Need-left-in-requires
+left-in-requires c κs = (c .before .before .before .before .before .before .before .before .before .before .before .pre .1 .0 .turn, c .before .before .before .before .before .before .command-of .ensures)
+
+add-says-by : tie.Need-add-says-by
+add-says-by c = omega (arith, c .before .before .before .before .before .before .before .before .before .before .before .before .before .pre .1 .1 .1)
 
 says-by-requires : tie.Need-says-by-requires
 says-by-requires c κs = search needs
@@ -42,11 +60,14 @@ says-by-requires c κs = search needs
 returns : tie.Need-returns
 unfolding saysOf
 returns c =
-    let d = c .before .before .before in
+    let d = c .before .before .before .before .before .before in
     simp (
       c .says-by .ensures,
-      c .before .owing .ensures,
-      d .broken-in .ensures,
+      c .before .before .left-in .ensures,
+      c .before .before .before .changed-in .ensures,
+      c .before .before .before .before .owing .ensures,
+      c .before .before .before .before .before .broken-in .ensures,
+      d .next28 .ensures,
       d .before .next25 .ensures,
       d .before .before .next24 .ensures,
       d .before .before .before .command-of .ensures,
@@ -63,8 +84,14 @@ said-spec =
     array-read-next25
     add-next25
     next25-requires
+    array-read-next28
+    array-read-next28-2
+    add-next28
+    next28-requires
     broken-in-requires
-    add-says-by
     owing-requires
+    changed-in-requires
+    left-in-requires
+    add-says-by
     says-by-requires
     returns)

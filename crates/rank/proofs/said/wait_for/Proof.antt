@@ -91,6 +91,12 @@ enum-told-12 c = search needs
 enum-told-13 : tie.Need-enum-told-13
 enum-told-13 c = search needs
 
+enum-told-14 : tie.Need-enum-told-14
+enum-told-14 c = search needs
+
+enum-told-15 : tie.Need-enum-told-15
+enum-told-15 c = search needs
+
 returns : tie.Need-returns
 returns c = let a = c .before .before .before .before .before .before .before .args in ap (λ (x : Command). waitFor (a .w) x (a .r)) (sym (c .enum-told .given .1))
 
@@ -133,6 +139,12 @@ returns-12 c = let a = c .before .before .before .before .before .before .before
 returns-13 : tie.Need-returns-13
 returns-13 c = let a = c .before .before .before .before .before .before .before .args in ap (λ (x : Command). waitFor (a .w) x (a .r)) (sym (c .enum-told13 .given .1))
 
+returns-14 : tie.Need-returns-14
+returns-14 c = let a = c .before .before .before .before .before .before .before .args in ap (λ (x : Command). waitFor (a .w) x (a .r)) (sym (c .enum-told14 .given .1))
+
+returns-15 : tie.Need-returns-15
+returns-15 c = let a = c .before .before .before .before .before .before .before .args in ap (λ (x : Command). waitFor (a .w) x (a .r)) (sym (c .enum-told15 .given .1))
+
 pub wait-for-spec : {M : Type 1} → statement M
 wait-for-spec =
     tie.close
@@ -165,6 +177,8 @@ wait-for-spec =
     enum-told-11
     enum-told-12
     enum-told-13
+    enum-told-14
+    enum-told-15
     returns
     returns-2
     returns-3
@@ -177,4 +191,6 @@ wait-for-spec =
     returns-10
     returns-11
     returns-12
-    returns-13)
+    returns-13
+    returns-14
+    returns-15)

@@ -11,7 +11,8 @@ use Rattle.edges.specs.Floors.{noFloor}
 use Rattle.edges.specs.Running.{trackOf}
 use Rattle.edges.specs.Lane.{Laning}
 use Rattle.edges.proofs.Stands.{last-edge, one-more}
-use Rattle.edges.proofs.Lane.{by-the-codes, lane-start, lane-base, lane-due, lane-stands, lane-quick, lane-seldom, lane-out}
+use Rattle.edges.proofs.Lane.{by-the-codes, lane-start, lane-base, lane-stands, lane-quick, lane-seldom, lane-out}
+use Rattle.edges.proofs.Exits.{pass-needs}
 use Rattle.rank.proofs.smooth.smoothly.Statement.{statement}
 use Rattle.rank.proofs.smooth.smoothly.Tie as tie
 
@@ -37,16 +38,20 @@ asks-of-requires c κs =
 
 clear-of-requires : tie.Need-clear-of-requires Inv-loop μ-loop
 clear-of-requires c κs =
-    let p9 = c .before .before .before .before .before .before .before .before .before in let fit = p9 .pre in
-    (omega (arith, fit .base .edge, fit .base .room), fit .base .acted)
+    let p10 = c .before .before .before .before .before .before .before .before .before .before in let fit = p10 .pre in
+    (omega (arith, fit .base .edge, fit .base .room), (fit .turned, fit .base .acted))
 
 loop-holds : tie.Need-loop-holds Inv-loop μ-loop
 loop-holds c =
-    let p2 = c .before .before in let p7 = p2 .before .before .before .before .before in let p8 = p7 .before in let p10 = p8 .before .before in let p12 = p10 .before .before in
+    let p2 = c .before .before in
+    let p8 = p2 .before .before .before .before .before .before in
+    let p9 = p8 .before in
+    let p11 = p9 .before .before in
+    let p13 = p11 .before .before in
     let clear = p2 .clear-of .ensures in
-    rw (p10 .none .ensures)
-    (lane-start _ _ _ _ _ _ _ _ _ _ _ (p12 .pre) (clear .0) (clear .1 .0) (clear .1 .1) (c .numbered .ensures)
-    (by-the-codes (p7 .asks-of .ensures) (p8 .regs-of .ensures)))
+    rw (p11 .none .ensures)
+    (lane-start _ _ _ _ _ _ _ _ _ _ _ (p13 .pre) (clear .0) (clear .1 .0) (clear .1 .1 .0) (clear .1 .1 .1) (c .numbered .ensures)
+    (by-the-codes (p8 .asks-of .ensures) (p9 .regs-of .ensures)))
 
 record-at-requires : tie.Need-record-at-requires Inv-loop μ-loop
 record-at-requires c κs =
@@ -105,13 +110,18 @@ returns-2 c =
 
 add-at : tie.Need-add-at Inv-loop μ-loop
 add-at c =
-    let p14 = c .before .before .before .before .before .before .before .before .before .before .before .before .before .before in let p16 = p14 .before .before in
+    let p14 = c .before .before .before .before .before .before .before .before .before .before .before .before .before .before in
+    let p16 = p14 .before .before in
     let p33 = p16 .before .before .before .before .before .before .before .before .before .before .before .before .before .before .before .before .before in
-    let p39 = p33 .before .before .before .before .before .before in let p42 = p39 .before .before .before in let p44 = p42 .before .before in
-    let p57 = p44 .before .before .before .before .before .before .before .before .before .before .before .before .before in let peek = p42 .record-at .result in let asks = p39 .asks-anew in
+    let p39 = p33 .before .before .before .before .before .before in
+    let p42 = p39 .before .before .before in
+    let p44 = p42 .before .before in
+    let p58 = p44 .before .before .before .before .before .before .before .before .before .before .before .before .before .before in
+    let peek = p42 .record-at .result in
+    let asks = p39 .asks-anew in
     let lane = lane-quick (p44 .loop .inv) (peek .cke && (ltb 1 (peek .pins) && not (eqb (peek .pins) 6))) _ (asks .ensures .0) (asks .ensures .1) _ (p33 .if-so .ensures .0) _ _
     (p16 .quick .ensures) in
-    omega (arith, lane-base lane .within, lane-base lane .sixes, p14 .if1 .left, p57 .good)
+    omega (arith, lane-base lane .within, lane-base lane .sixes, p14 .if1 .left, p58 .good)
 
 add-no : tie.Need-add-no Inv-loop μ-loop
 add-no c =
@@ -123,56 +133,48 @@ add-no c =
     (p16 .quick .ensures) in
     omega (arith, one-more _ _ _ _ _ (lane-base lane) (omega (arith, p14 .if1 .left)) (p13 .record-at2 .result) (p13 .record-at2 .ensures))
 
-come-requires : tie.Need-come-requires Inv-loop μ-loop
-come-requires c κs =
-    let p20 = c .before .before .before .before .before .before .before .before .before .before .before .before .before .before .before .before .before .before .before .before in
-    let p21 = p20 .before in let p22 = p21 .before in let p24 = p22 .before .before in
-    let p41 = p24 .before .before .before .before .before .before .before .before .before .before .before .before .before .before .before .before .before in
-    let p47 = p41 .before .before .before .before .before .before in let p50 = p47 .before .before .before in let p52 = p50 .before .before in let peek = p50 .record-at .result in
-    let asks = p47 .asks-anew in
-    let lane = lane-quick (p52 .loop .inv) (peek .cke && (ltb 1 (peek .pins) && not (eqb (peek .pins) 6))) _ (asks .ensures .0) (asks .ensures .1) _ (p41 .if-so .ensures .0) _ _
-    (p24 .quick .ensures) in (
-      lane-base lane .small,
-      (
-        omega (arith, last-edge _ _ _ _ _ (lane-base lane) (omega (arith, p22 .if1 .left)) (p21 .record-at2 .result) (p21 .record-at2 .ensures)),
-        lane-due lane,
-      ),
-    )
-
-clear-anew-requires : tie.Need-clear-anew-requires Inv-loop μ-loop
-clear-anew-requires c κs =
-    let p20 = c .before .before .before .before .before .before .before .before .before .before .before .before .before .before .before .before .before .before .before .before in
-    let p29 = p20 .before .before .before .before .before .before .before .before .before in let p30 = p29 .before in let p32 = p30 .before .before in
-    let p49 = p32 .before .before .before .before .before .before .before .before .before .before .before .before .before .before .before .before .before in
-    let p55 = p49 .before .before .before .before .before .before in let p58 = p55 .before .before .before in let p60 = p58 .before .before in let peek = p58 .record-at .result in
-    let asks = p55 .asks-anew in
-    let lane = lane-quick (p60 .loop .inv) (peek .cke && (ltb 1 (peek .pins) && not (eqb (peek .pins) 6))) _ (asks .ensures .0) (asks .ensures .1) _ (p49 .if-so .ensures .0) _ _
-    (p32 .quick .ensures) in (
-      omega (arith, last-edge _ _ _ _ _ (lane-base lane) (omega (arith, p30 .if1 .left)) (p29 .record-at2 .result) (p29 .record-at2 .ensures)),
-      lane-base lane .acted,
-    )
+pass-requires : tie.Need-pass-requires Inv-loop μ-loop
+pass-requires c κs =
+    let p24 = c .before .before .before .before .before .before .before .before .before .before .before .before .before .before .before .before .before .before .before .before .before .before .before .before in
+    let p25 = p24 .before in
+    let p27 = p25 .before .before in
+    let p44 = p27 .before .before .before .before .before .before .before .before .before .before .before .before .before .before .before .before .before in
+    let p50 = p44 .before .before .before .before .before .before in
+    let p53 = p50 .before .before .before in
+    let p55 = p53 .before .before in
+    let peek = p53 .record-at .result in
+    let asks = p50 .asks-anew in
+    let lane = lane-quick (p55 .loop .inv) (peek .cke && (ltb 1 (peek .pins) && not (eqb (peek .pins) 6))) _ (asks .ensures .0) (asks .ensures .1) _ (p44 .if-so .ensures .0) _ _
+    (p27 .quick .ensures) in
+    pass-needs lane (omega (arith, p25 .if1 .left)) (p24 .record-at2 .result) (p24 .record-at2 .ensures)
 
 loop-less : tie.Need-loop-less Inv-loop μ-loop
 loop-less c =
-    let p20 = c .before .before .before .before .before .before .before .before .before .before .before .before .before .before .before .before .before .before .before .before in
-    let p31 = p20 .before .before .before .before .before .before .before .before .before .before .before in let p33 = p31 .before .before in
-    let p53 = p33 .before .before .before .before .before .before .before .before .before .before .before .before .before .before .before .before .before .before .before .before in
-    let p60 = p53 .before .before .before .before .before .before .before in
-    omega (arith, p33 .quick .ensures .later, p31 .if1 .left, p60 .loop-test .taken)
+    let p28 = c .before .before .before .before .before .before .before .before .before .before .before .before .before .before .before .before .before .before .before .before .before .before .before .before .before .before .before .before in
+    let p30 = p28 .before .before in
+    let p57 = p30 .before .before .before .before .before .before .before .before .before .before .before .before .before .before .before .before .before .before .before .before .before .before .before .before .before .before .before in
+    omega (arith, p30 .quick .ensures .later, p28 .if1 .left, p57 .loop-test .taken)
 
 loop-again : tie.Need-loop-again Inv-loop μ-loop
 loop-again c =
-    let p5 = c .before .before .before .before .before in let p8 = p5 .before .before .before in let p17 = p8 .before .before .before .before .before .before .before .before .before in
-    let p18 = p17 .before in let p28 = p18 .before .before .before .before .before .before .before .before .before .before in let p30 = p28 .before .before in let p31 = p30 .before in
-    let p33 = p31 .before .before in let p50 = p33 .before .before .before .before .before .before .before .before .before .before .before .before .before .before .before .before .before in
-    let p56 = p50 .before .before .before .before .before .before in let p59 = p56 .before .before .before in let p61 = p59 .before .before in let peek = p59 .record-at .result in
-    let asks = p56 .asks-anew in
-    let lane = lane-quick (p61 .loop .inv) (peek .cke && (ltb 1 (peek .pins) && not (eqb (peek .pins) 6))) _ (asks .ensures .0) (asks .ensures .1) _ (p50 .if-so .ensures .0) _ _
-    (p33 .quick .ensures) in
-    let clear = c .clear-anew .ensures in
-    lane-seldom lane (omega (arith, p31 .if1 .left)) (p30 .record-at2 .result) (p30 .record-at2 .ensures) (p28 .command-of .result) (p28 .command-of .ensures)
-    (p18 .may .result) (p17 .if2 .left) (p18 .may .ensures) _ _ _ _ _ _ (p8 .come .ensures) _ (p5 .rank-of .ensures) _ (clear .0) (clear .1 .0)
-    (clear .1 .1 .0) (clear .1 .1 .1)
+    let p2 = c .before .before in
+    let p13 = p2 .before .before .before .before .before .before .before .before .before .before .before in
+    let p14 = p13 .before in
+    let p15 = p14 .before in
+    let p25 = p15 .before .before .before .before .before .before .before .before .before .before in
+    let p27 = p25 .before .before in
+    let p28 = p27 .before in
+    let p30 = p28 .before .before in
+    let p47 = p30 .before .before .before .before .before .before .before .before .before .before .before .before .before .before .before .before .before in
+    let p53 = p47 .before .before .before .before .before .before in
+    let p56 = p53 .before .before .before in
+    let p58 = p56 .before .before in
+    let peek = p56 .record-at .result in
+    let asks = p53 .asks-anew in
+    let lane = lane-quick (p58 .loop .inv) (peek .cke && (ltb 1 (peek .pins) && not (eqb (peek .pins) 6))) _ (asks .ensures .0) (asks .ensures .1) _ (p47 .if-so .ensures .0) _ _
+    (p30 .quick .ensures) in
+    lane-seldom lane (omega (arith, p28 .if1 .left)) (p27 .record-at2 .result) (p27 .record-at2 .ensures) (p25 .command-of .result) (p25 .command-of .ensures)
+    (p15 .may .result) (p14 .if2 .left) (p15 .may .ensures) _ _ _ _ _ _ _ (p2 .pass .ensures) _ (p13 .rank-of .ensures)
 
 returns-3 : tie.Need-returns-3 Inv-loop μ-loop
 returns-3 c =
@@ -188,6 +190,7 @@ smoothly-spec =
     (λ c κs. search needs)
     (λ c κs. search needs)
     asks-of-requires
+    (λ c. search needs)
     clear-of-requires
     (λ c κs. search needs)
     loop-holds
@@ -208,9 +211,8 @@ smoothly-spec =
     returns-2
     add-at
     add-no
-    come-requires
     (λ c κs. search needs)
-    clear-anew-requires
+    pass-requires
     loop-less
     loop-again
     returns-3)

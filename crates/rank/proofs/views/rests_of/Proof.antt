@@ -26,19 +26,18 @@ device-mark-requires-5 c κs = search needs
 device-mark-requires-6 : tie.Need-device-mark-requires-6
 device-mark-requires-6 c κs = search needs
 
+device-mark-requires-7 : tie.Need-device-mark-requires-7
+device-mark-requires-7 c κs = search needs
+
+device-mark-requires-8 : tie.Need-device-mark-requires-8
+device-mark-requires-8 c κs = search needs
+
+device-mark-requires-9 : tie.Need-device-mark-requires-9
+device-mark-requires-9 c κs = search needs
+
 returns : tie.Need-returns
 unfolding restsOf
-returns c =
-    let d = c .before .before .before in
-    simp (
-      c .device-mark6 .ensures,
-      c .before .device-mark5 .ensures,
-      c .before .before .reset-of .ensures,
-      d .device-mark4 .ensures,
-      d .before .device-mark3 .ensures,
-      d .before .before .device-mark2 .ensures,
-      d .before .before .before .device-mark .ensures,
-    )
+returns c = simp (c .device-mark9 .ensures, c .before .device-mark8 .ensures, c .before .before .device-mark7 .ensures, c .before .before .before .device-mark6 .ensures, c .before .before .before .before .device-mark5 .ensures, c .before .before .before .before .before .reset-of .ensures, c .before .before .before .before .before .before .device-mark4 .ensures, c .before .before .before .before .before .before .before .device-mark3 .ensures, c .before .before .before .before .before .before .before .before .device-mark2 .ensures, c .before .before .before .before .before .before .before .before .before .device-mark .ensures)
 
 pub rests-of-spec : {M : Type 1} → statement M
 rests-of-spec =
@@ -51,4 +50,7 @@ rests-of-spec =
     reset-of-requires
     device-mark-requires-5
     device-mark-requires-6
+    device-mark-requires-7
+    device-mark-requires-8
+    device-mark-requires-9
     returns)

@@ -20,6 +20,9 @@ act-back-requires-4 c κs = search needs
 rests-of-requires : tie.Need-rests-of-requires
 rests-of-requires c κs = search needs
 
+regs-of-requires : tie.Need-regs-of-requires
+regs-of-requires c κs = search needs
+
 written-of-requires : tie.Need-written-of-requires
 written-of-requires c κs = search needs
 
@@ -37,21 +40,7 @@ shut-of-requires c κs = search needs
 
 returns : tie.Need-returns
 unfolding sharedOf
-returns c =
-    let d = c .before .before .before .before in
-    let a = d .before .before in
-    simp (
-      c .shut-of .ensures,
-      c .before .device-mark .ensures,
-      c .before .before .wrote-of .ensures,
-      c .before .before .before .read-of .ensures,
-      d .written-of .ensures,
-      d .before .rests-of .ensures,
-      a .act-back4 .ensures,
-      a .before .act-back3 .ensures,
-      a .before .before .act-back2 .ensures,
-      a .before .before .before .act-back .ensures,
-    )
+returns c = simp (c .shut-of .ensures, c .before .device-mark .ensures, c .before .before .wrote-of .ensures, c .before .before .before .read-of .ensures, c .before .before .before .before .written-of .ensures, c .before .before .before .before .before .regs-of .ensures, c .before .before .before .before .before .before .rests-of .ensures, c .before .before .before .before .before .before .before .act-back4 .ensures, c .before .before .before .before .before .before .before .before .act-back3 .ensures, c .before .before .before .before .before .before .before .before .before .act-back2 .ensures, c .before .before .before .before .before .before .before .before .before .before .act-back .ensures)
 
 pub shared-of-spec : {M : Type 1} → statement M
 shared-of-spec =
@@ -62,6 +51,7 @@ shared-of-spec =
     act-back-requires-3
     act-back-requires-4
     rests-of-requires
+    regs-of-requires
     written-of-requires
     read-of-requires
     wrote-of-requires

@@ -1,6 +1,7 @@
 -- Field by field.
 -- Assumes nothing.
 use Prim.Native.Nat.{ℕ, _+_, max}
+use mathlib.Core.Bool.{Bool}
 use mathlib.Core.Path.{_≡_, _∙_}
 use mathlib.Core.List.{List, [], _∷_, _++_}
 use lib.ListN.{getD}
@@ -22,19 +23,19 @@ unfolding table
 join-is f g a b x p q is = is ∙ (λ i. table (λ j. getD (p i) j 0) ++ table (λ j. getD (q i) j 0))
 
 waits-are :
-    (C : Chip) (c : Command) (r : Record) (e : ℕ) (g : Regs) (start four : ℕ) (W : Waits)
+    (C : Chip) (c : Command) (r : Record) (e : ℕ) (g : Regs) (start four : ℕ) (slow : Bool) (W : Waits)
     {act rds wrs col pre : List ℕ} {refs mrs sre h0 h1 h2 h3 : ℕ}
-    → act ≡ table (λ b. max (getD (W .act) b 0) (asksAct C c r e g start four b))
-    → rds ≡ table (λ b. max (getD (W .col) b 0) (asksRd C c r e g start four b))
-    → wrs ≡ table (λ b. max (getD (W .col) (b + 8) 0) (asksWr C c r e g start four b))
+    → act ≡ table (λ b. max (getD (W .act) b 0) (asksAct C c r e g start four slow b))
+    → rds ≡ table (λ b. max (getD (W .col) b 0) (asksRd C c r e g start four slow b))
+    → wrs ≡ table (λ b. max (getD (W .col) (b + 8) 0) (asksWr C c r e g start four slow b))
     → col ≡ table (λ i. getD rds i 0) ++ table (λ i. getD wrs i 0)
-    → pre ≡ table (λ b. max (getD (W .pre) b 0) (asksPre C c r e g start four b))
-    → refs ≡ asksRef C c r e g start four → mrs ≡ asksMrs C c r e g start four → sre ≡ asksSre C c r e g start four
+    → pre ≡ table (λ b. max (getD (W .pre) b 0) (asksPre C c r e g start four slow b))
+    → refs ≡ asksRef C c r e g start four slow → mrs ≡ asksMrs C c r e g start four slow → sre ≡ asksSre C c r e g start four slow
     → h0 ≡ max (getD (W .holds) 0 0) refs → h1 ≡ max (getD (W .holds) 1 0) mrs
     → h2 ≡ max (getD (W .holds) 2 0) refs → h3 ≡ max (getD (W .holds) 3 0) sre
-    → record { act = act; col = col; pre = pre; holds = h0 ∷ h1 ∷ h2 ∷ h3 ∷ [] } ≡ waitsNext C c r e g start four W
+    → record { act = act; col = col; pre = pre; holds = h0 ∷ h1 ∷ h2 ∷ h3 ∷ [] } ≡ waitsNext C c r e g start four slow W
 unfolding waitsNext
-waits-are C c r e g start four W bs ds ws cs ps fs ms ss e0 e1 e2 e3 =
+waits-are C c r e g start four slow W bs ds ws cs ps fs ms ss e0 e1 e2 e3 =
     let js = join-is _ _ _ _ _ ds ws cs in
     let f0 = e0 ∙ (λ i. max (getD (W .holds) 0 0) (fs i)) in
     let f1 = e1 ∙ (λ i. max (getD (W .holds) 1 0) (ms i)) in
@@ -91,7 +92,7 @@ most-of-requires-4 : tie.Need-most-of-requires-4
 most-of-requires-4 c κs = search needs
 
 returns : tie.Need-returns
-returns c = let a = c .before .before .before .before .before .before .before .before .before .before .before .before .before .before .before .before .args in waits-are (a .chip) (a .c) (a .r) (a .e) (a .g) (a .start) (a .four) (a .w) (c .before .before .before .before .before .before .act-waits .ensures) (c .before .before .before .before .before .before .before .before .before .before .before .rd-waits .ensures) (c .before .before .before .before .before .before .before .before .before .before .wr-waits .ensures) (c .before .before .before .before .before .joined .ensures) (c .before .before .before .before .pre-waits .ensures) (c .before .before .before .before .before .before .before .before .before .asks-ref .ensures) (c .before .before .before .before .before .before .before .before .asks-mrs .ensures) (c .before .before .before .before .before .before .before .asks-sre .ensures) (c .before .before .before .most-of .ensures) (c .before .before .most-of2 .ensures) (c .before .most-of3 .ensures) (c .most-of4 .ensures)
+returns c = let a = c .before .before .before .before .before .before .before .before .before .before .before .before .before .before .before .before .args in waits-are (a .chip) (a .c) (a .r) (a .e) (a .g) (a .start) (a .four) (a .slow) (a .w) (c .before .before .before .before .before .before .act-waits .ensures) (c .before .before .before .before .before .before .before .before .before .before .before .rd-waits .ensures) (c .before .before .before .before .before .before .before .before .before .before .wr-waits .ensures) (c .before .before .before .before .before .joined .ensures) (c .before .before .before .before .pre-waits .ensures) (c .before .before .before .before .before .before .before .before .before .asks-ref .ensures) (c .before .before .before .before .before .before .before .before .asks-mrs .ensures) (c .before .before .before .before .before .before .before .asks-sre .ensures) (c .before .before .before .most-of .ensures) (c .before .before .most-of2 .ensures) (c .before .most-of3 .ensures) (c .most-of4 .ensures)
 
 pub waits-next-spec : {M : Type 1} → statement M
 waits-next-spec =

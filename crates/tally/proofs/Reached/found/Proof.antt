@@ -13,7 +13,7 @@ kind-at-requires c κs = search needs
 
 returns : tie.Need-returns
 unfolding foundOf
-returns c = let d = c .before .before .before in rw (d .before .next .ensures, d .kind-at .ensures .0)
+returns c = rw (c .before .next .ensures, c .kind-at .ensures .0)
 
 pub found-spec : {M : Type 1} → statement M
 found-spec = tie.close (tie.spec next-requires kind-at-requires returns)

@@ -11,12 +11,17 @@ wrapping-add-u64-requires c κs = search needs
 wrapping-add-u64-requires-2 : tie.Need-wrapping-add-u64-requires-2
 wrapping-add-u64-requires-2 c κs = search needs
 
+sleeps-after-requires : tie.Need-sleeps-after-requires
+sleeps-after-requires c κs = search needs
+
 earlier-requires : tie.Need-earlier-requires
 earlier-requires c κs = search needs
 
 returns : tie.Need-returns
 unfolding nextOf
-returns c = rw (c .earlier .ensures, c .before .wrapping-add-u642 .ensures, c .before .before .wrapping-add-u64 .ensures)
+returns c =
+    let d = c .before in
+    rw (c .earlier .ensures, d .sleeps-after .ensures, d .before .wrapping-add-u642 .ensures, d .before .before .wrapping-add-u64 .ensures)
 
 pub next-spec : {M : Type 1} → statement M
-next-spec = tie.close (tie.spec wrapping-add-u64-requires wrapping-add-u64-requires-2 earlier-requires returns)
+next-spec = tie.close (tie.spec wrapping-add-u64-requires wrapping-add-u64-requires-2 sleeps-after-requires earlier-requires returns)
