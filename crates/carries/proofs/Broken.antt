@@ -1,14 +1,13 @@
 -- What a record breaks of the rules, by the summary's waiting times and marks, is what the rules say, looking back.
 -- Assumes nothing.
-use Prim.Native.Nat.{ℕ, zero, suc, _+_, _-_, _≤_, max}
+use Prim.Native.Nat.{ℕ, zero, suc, _+_, _≤_, max}
 use native.Mathlib.Omega.{arith}
 use mathlib.Core.Path.{_≡_, refl, sym, ap, _∙_}
 use mathlib.Core.Logic.{⊎-elim}
-use mathlib.Core.Bool.{Bool, true, false, cond, _&&_}
+use mathlib.Core.Bool.{true, false, cond, _&&_}
 use mathlib.Core.List.{List, [], _∷_, _++_}
 use lib.Dec.{leb}
 use borrow.Author.Tests.{leb-true}
-use Rattle.laws.proofs.Both.{both}
 use Rattle.laws.specs.Eight.{table}
 use Rattle.laws.proofs.Eight.{getD-table, getD-first, getD-second}
 use Rattle.answers.specs.declared.Break.{Break}
@@ -20,13 +19,10 @@ use Rattle.records.specs.declared.Command.the-variants.{Mrs, Ref, Pre, Act, Wr,
 use Rattle.records.specs.Command.{isA, a10, bankIn}
 use Rattle.chip.specs.declared.Chip.{Chip}
 use Rattle.running.specs.Breaks.{rule1, rule2, rule3}
-use Rattle.running.specs.Down.{rule26}
-use Rattle.edges.specs.Views.{keptsOf, sharedOf}
 use Rattle.edges.specs.Asks.{greatest, waitFor}
-use Rattle.edges.specs.Says.{lastRules, spacedIn, brokenIn, entryOver, changedIn, leftIn}
+use Rattle.edges.specs.Says.{lastRules, spacedIn, brokenIn, changedIn, leftIn}
 use Rattle.rules.specs.Past.{Past, edge, changes, command, is, latest}
-use Rattle.rules.specs.Search.{row}
-use Rattle.rules.specs.Rules.{spacing, spaced, r22, r26, rule23, checks, changeChecks, exitChecks, breakAt}
+use Rattle.rules.specs.Rules.{spacing, spaced, r22, rule23, checks, changeChecks, exitChecks, breakAt}
 use Rattle.rules.specs.Waiting.{asks, ofBanks, wait, waitAt, spacingRules}
 use Rattle.rules.proofs.Generic.{decide, constant-dominated}
 use Rattle.rules.proofs.Events.{orElse-fine}
@@ -36,9 +32,8 @@ use Rattle.rules.proofs.Summary.{mark, rests, shared}
 use Rattle.rules.proofs.Words.{or-fine, spacingChecks}
 use Rattle.rules.proofs.Agree.{row-also, marks23, spacings-agree, agrees2, agrees3}
 use Rattle.rules.proofs.Changing.{agrees26, agrees27, exits-agree}
-use Rattle.rules.proofs.Entered.{entry-over}
-use Rattle.rules.proofs.Allowing.{of-banks, waits-allow}
-use Rattle.carries.proofs.Summary.{debtOf, actsOf, banksOf, waitsOf, deviceOf, summary}
+use Rattle.rules.proofs.Allowing.{waits-allow}
+use Rattle.carries.proofs.Summary.{debtOf, waitsOf, summary}
 use Rattle.carries.proofs.Views.{kepts-view, written-view}
 use Rattle.carries.proofs.Marks.{spacings-view, last-view, entry-view, held-view, exit-view}
 
@@ -127,30 +122,9 @@ module _ (C : Chip) (S : Sound C) (r : Record) (p : Past) (h : Clean C p) where
 
   -- ── Rules 26, 27, 29 and 30 ───────────────────────────────────────────────────────────────
 
-  -- where the waiting times are over an entry breaks nothing
-  entered : entryOver (waitsOf C p) e ≡ true → row (spacing C r26) r p ≡ Fine
-  unfolding waitsOf
-  entered y =
-      let w = both (leb (greatest (table (λ b. wait C Pre b p)) 8) e) (leb 3 (e - wait C Sre 0 p)) y in
-      let g : greatest (table (λ b. wait C Pre b p)) 8 ≤ edge (r ∷ p) = leb-true _ _ (w .0) in
-      let l : ofBanks (λ b. wait C Pre b p) 8 ≤ edge (r ∷ p) = rw (greatest-of (λ b. wait C Pre b p) 8 (omega arith)) at g in
-      let k = leb-true 3 (e - wait C Sre 0 p) (w .1) in
-      ap (λ x. cond (is Pde (r ∷ p)) x Fine) (entry-over C S p h e (of-banks C S r p (λ b. wait C Pre b p) 8 l) (omega arith)) ∙ either-way (is Pde (r ∷ p))
-    where
-      either-way : (x : Bool) → _≡_ {A = Break} (cond x Fine Fine) Fine
-      either-way true = refl
-      either-way false = refl
-
-  entry-in : 1 ≤ r .step
-      → cond (entryOver (waitsOf C p) e) Fine (rule26 C c (keptsOf C (banksOf C p)) (sharedOf C (banksOf C p) (actsOf p) (deviceOf C p)) e) ≡ row (spacing C r26) r p
-  entry-in far = ⊎-elim
-      (λ (y : entryOver (waitsOf C p) e ≡ true). rw y (sym (entered y)))
-      (λ (n : entryOver (waitsOf C p) e ≡ false). rw n (entry-view C p h c e ∙ agrees26 C S r p h far))
-      (decide (entryOver (waitsOf C p) e))
-
   pub changed-in : 1 ≤ r .step → changedIn C (summary C p) r (edge (r ∷ p)) ≡ breakAt (changeChecks C) r p
   unfolding changedIn summary debtOf
-  changed-in far = λ i. orElse (entry-in far i) ((held-view C p h (changes (r ∷ p)) e ∙ agrees27 C S r p h far) i)
+  changed-in far = λ i. orElse ((entry-view C p h c e ∙ agrees26 C S r p h far) i) ((held-view C p h (changes (r ∷ p)) e ∙ agrees27 C S r p h far) i)
 
   pub left-in : 1 ≤ r .step → leftIn C (summary C p) r (edge (r ∷ p)) ≡ breakAt (exitChecks C) r p
   unfolding leftIn summary debtOf

@@ -20,7 +20,7 @@ use Rattle.chip.specs.declared.Chip.{Chip}
 use Rattle.running.specs.declared.Late.{Late}
 use Rattle.running.specs.Marks.{empty}
 use Rattle.running.specs.Next.{due}
-use Rattle.running.specs.Late.{better, soonest, why, sooner, lateBy, stayUntil}
+use Rattle.running.specs.Late.{better, soonest, why, sooner, lateBy}
 use Rattle.running.specs.Deadlines as running
 use Rattle.edges.specs.Views.{keptOf}
 use Rattle.edges.specs.Says.{duesOf, next24, next25, next28, soonestOf, owing}

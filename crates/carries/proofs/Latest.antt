@@ -1,20 +1,19 @@
 -- The latest RD and the latest WR of all banks, from those of the eight banks.
 -- Assumes nothing.
-use Prim.Native.Nat.{ℕ, zero, suc, _+_, _-_, _≤_, _<_}
+use Prim.Native.Nat.{ℕ, _+_, _-_, _≤_, _<_}
 use native.Mathlib.Omega.{arith}
-use native.Mathlib.Decide.{ℕ-discrete}
-use mathlib.Core.Path.{_≡_, refl, sym, ap, _∙_, subst}
+use mathlib.Core.Path.{_≡_, refl, ap, _∙_}
 use mathlib.Core.Logic.{_⊎_, inl, inr, ⊎-elim}
-use mathlib.Core.Bool.{Bool, true, false, cond, _&&_}
+use mathlib.Core.Bool.{Bool, true, false, _&&_}
 use mathlib.Core.List.{List, [], _∷_}
-use lib.Dec.{ltb}
 use lib.ListN.{getD}
-use borrow.Author.Tests.{ltb-true, ltb-false, eq-eqb}
+use borrow.Author.Tests.{eq-eqb}
 use Rattle.laws.proofs.Both.{both}
 use Rattle.laws.proofs.Eight.{getD-first, getD-second}
 use Rattle.records.specs.declared.Command.the-variants.{Wr, Rd}
 use Rattle.chip.specs.declared.Chip.{Chip}
 use Rattle.edges.specs.Views.{latestFrom, readOf, wroteOf}
+use Rattle.edges.proofs.Latest.{Most, latest-from}
 use Rattle.rules.specs.Past.{Past, edge, number, is, bankOf, on, _∈_, latest}
 use Rattle.rules.proofs.Generic.{decide}
 use Rattle.rules.proofs.Events.{latest-is, latest-part}
@@ -22,40 +21,6 @@ use Rattle.rules.proofs.Dominate.{need10, need11, need13, need14, need19, bank-
 use Rattle.rules.proofs.Summary.{rdOn, wrOn, readOf as readBy, wroteOf as wroteBy}
 use Rattle.rules.proofs.Status.{latest-number}
 use Rattle.carries.proofs.Summary.{of, eachColumn, banksOf}
-
--- ── The greatest number ─────────────────────────────────────────────────────────────────────
-
--- the place that is found is one of those looked at, and no number there is greater
-record Most (num : List ℕ) (from n i : ℕ) : Type 0 where
-  after : from ≤ i
-  within : i ≤ from + n
-  most : (j : ℕ) → j ≤ n → getD num (from + j) 0 ≤ getD num i 0
-
-latest-from : (num : List ℕ) (from n : ℕ) → Most num from n (latestFrom num from n)
-unfolding latestFrom
-latest-from num from zero =
-    record { after = omega arith; within = omega arith; most = λ j l. let e : from + j ≡ from = omega arith in rw e (omega arith) }
-latest-from num from (suc n) = go (latestFrom num from n) (latest-from num from n)
-  where
-    top : (P : ℕ → Type 0) (m : ℕ) → ((j : ℕ) → j ≤ m → P j) → P (suc m) → (j : ℕ) → j ≤ suc m → P j
-    top P m f z j l = elim (ℕ-discrete j (suc m)) [ yes q ↦ subst P (sym q) z | no q ↦ f j (omega arith) ]
-
-    go : (i : ℕ) → Most num from n i → Most num from (suc n) (cond (ltb (getD num i 0) (getD num (from + suc n) 0)) (from + suc n) i)
-    go i w = ⊎-elim
-        (λ (y : ltb (getD num i 0) (getD num (from + suc n) 0) ≡ true).
-        rw y (record {
-          after = omega arith;
-          within = omega arith;
-          most = top (λ j. getD num (from + j) 0 ≤ getD num (from + suc n) 0) n
-              (λ j l. omega (arith, w .most j l, ltb-true (getD num i 0) (getD num (from + suc n) 0) y)) (omega arith);
-        }))
-        (λ (z : ltb (getD num i 0) (getD num (from + suc n) 0) ≡ false).
-        rw z (record {
-          after = w .after;
-          within = omega (arith, w .within);
-          most = top (λ j. getD num (from + j) 0 ≤ getD num i 0) n (w .most) (ltb-false (getD num i 0) (getD num (from + suc n) 0) z);
-        }))
-        (decide (ltb (getD num i 0) (getD num (from + suc n) 0)))
 
 -- an event and a later part of it of the same number are one
 same-part : (k : Past → Bool) (s : Past) → number s ≤ number (latest k s) → latest k s ≡ s

@@ -1,15 +1,19 @@
--- The banks are seen one after the other.
+-- The edge before which no deadline passes: the banks are seen one after the other; and after a seldom command.
 -- Assumes nothing.
-use Prim.Native.Nat.{ℕ, _+_, _≤_, _<_}
+use Prim.Native.Nat.{ℕ, _+_, _≤_, _<_, min}
 use native.Mathlib.Omega.{arith}
-use mathlib.Core.Bool.{Bool, true, false}
+use mathlib.Core.Bool.{Bool, true, false, cond, _||_}
 use mathlib.Core.List.{List}
-use mathlib.Core.Logic.{_⊎_, inl, inr, ⊎-elim}
+use mathlib.Core.Logic.{inl, inr, ⊎-elim}
 use mathlib.Core.Path.{_≡_, refl, subst}
 use lib.Dec.{ltb}
 use lib.ListN.{getD}
 use borrow.Author.Tests.{ltb-true, ltb-false}
-use Rattle.edges.specs.Clearing.{dueBy, Off, Clears, ClearTo, NoneAbove}
+use Rattle.records.specs.declared.Command.{Command}
+use Rattle.records.specs.declared.Command.the-variants.{Ref, Pre, Srx, Pde}
+use Rattle.records.specs.Command.{isA}
+use Rattle.edges.specs.declared.Debt.{Debt}
+use Rattle.edges.specs.Clearing.{dueBy, Off, Clears, Owing, ClearTo, NoneAbove, owingBy, clearNext}
 
 pub off-sooner : (lo x x′ d : ℕ) → x′ ≤ x → Off lo x d → Off lo x′ d
 off-sooner lo x x′ d l h = ⊎-elim inl (λ u. inr (omega (arith, u, l))) h
@@ -50,3 +54,50 @@ none-next nums n b h less here = record { seen = λ i l. go i l (ltb i b) refl; 
       where
         same : b ≡ i
         same = omega (arith, l, ltb-false i b e)
+
+-- ── After a seldom command ──────────────────────────────────────────────────────────────────
+
+pub owing-by : (D : Debt) (x : ℕ) → Owing D (owingBy D x)
+owing-by D x = go (D .sleeps) refl
+  where
+    go : (z : Bool) → D .sleeps ≡ z → Owing D (cond z x (min x (D .due)))
+    go true e = inl e
+    go false e = inr (omega arith)
+
+pub owing-below : (D : Debt) (x : ℕ) → owingBy D x ≤ x
+owing-below D x = go (D .sleeps)
+  where
+    go : (z : Bool) → cond z x (min x (D .due)) ≤ x
+    go true = omega arith
+    go false = omega arith
+
+module _ (m s : ℕ) (c : Command) (e at : ℕ) (D : Debt) (x : ℕ) where
+  pub next-owed : (isA Srx c ≡ false → Owing D x) → Owing D (clearNext m s c e at D x)
+  unfolding clearNext
+  next-owed h = go (isA Ref c || isA Pre c) (isA Srx c) refl (isA Pde c)
+    where
+      go : (a b : Bool) → isA Srx c ≡ b → (d : Bool) → Owing D (cond a (owingBy D (e + m + 1)) (cond b (owingBy D x) (cond d (min x (at + s + 1)) x)))
+      go true b u d = owing-by D (e + m + 1)
+      go false true u d = owing-by D x
+      go false false u true = ⊎-elim inl (λ y. inr (omega (arith, y))) (h u)
+      go false false u false = h u
+
+  pub next-near : x ≤ e + m + 1 → clearNext m s c e at D x ≤ e + m + 1
+  unfolding clearNext
+  next-near h = go (isA Ref c || isA Pre c) (isA Srx c) (isA Pde c)
+    where
+      go : (a b d : Bool) → cond a (owingBy D (e + m + 1)) (cond b (owingBy D x) (cond d (min x (at + s + 1)) x)) ≤ e + m + 1
+      go true b d = owing-below D (e + m + 1)
+      go false true d = omega (arith, owing-below D x)
+      go false false true = omega arith
+      go false false false = h
+
+  -- where a bank may be open it is no later than it was
+  pub next-below : isA Ref c ≡ false → isA Pre c ≡ false → clearNext m s c e at D x ≤ x
+  unfolding clearNext
+  next-below p q = rw (p, q) (go (isA Srx c) (isA Pde c))
+    where
+      go : (b d : Bool) → cond b (owingBy D x) (cond d (min x (at + s + 1)) x) ≤ x
+      go true d = owing-below D x
+      go false true = omega arith
+      go false false = omega arith

@@ -1,13 +1,13 @@
 -- A seldom command that may come: the step is what it leaves behind.
 -- Assumes nothing.
-use Prim.Native.Nat.{ℕ, zero, suc, _+_, _-_, _≤_, _<_, max}
+use Prim.Native.Nat.{ℕ, zero, suc, _+_, _≤_, _<_, max}
 use native.Mathlib.Omega.{arith}
 use mathlib.Core.Bool.{Bool, true, cond}
 use mathlib.Core.List.{List}
-use mathlib.Core.Logic.{_⊎_, inl, inr, ⊎-elim}
+use mathlib.Core.Logic.{inl, inr, ⊎-elim}
 use mathlib.Core.Path.{_≡_, refl, _∙_}
 use lib.ListN.{getD}
-use borrow.Author.Tests.{eq-eqb, le-leb}
+use borrow.Author.Tests.{eq-eqb}
 use Rattle.laws.specs.Eight.{table}
 use Rattle.laws.proofs.Eight.{getD-table}
 use Rattle.records.specs.declared.Record.{Record}
@@ -20,15 +20,16 @@ use Rattle.edges.specs.declared.Floor.{Floor}
 use Rattle.edges.specs.declared.Rank.{Rank}
 use Rattle.edges.specs.Asks.{greatest, waitFor}
 use Rattle.edges.specs.Next.{slowNow, deviceNext, debtNext}
-use Rattle.edges.specs.Says.{entryOver, commandIn}
+use Rattle.edges.specs.Says.{commandIn}
 use Rattle.edges.specs.Step.{movedOf, stepOf}
 use Rattle.edges.specs.Floors.{under, settled}
 use Rattle.edges.specs.Ways.{floorNext, holdsNext}
-use Rattle.edges.specs.Seldom.{Rested, Entered, MayCome}
+use Rattle.edges.specs.Seldom.{Rested, MayCome}
 use Rattle.edges.specs.Running.{Track, Rest, heldBy, rankOf}
 use Rattle.edges.specs.Lane.{restBy, Clear}
 use Rattle.edges.proofs.Easy.{NoneDue, NotOwed, NotLong, AllFine, says-none}
 use Rattle.edges.proofs.Fine.{Idling, all-fine, ref-fine, zq-fine, mrs-fine, sre-fine, srx-fine, nop-fine, des-fine, low-fine, pde-fine, pdx-fine}
+use Rattle.edges.proofs.Entering.{entered-fine}
 use Rattle.edges.proofs.Ways.{Sized}
 use Rattle.edges.proofs.Changing.{is-ref, is-zq, is-mrs, is-sre, is-srx, is-nop, is-des, is-low, is-pde, is-pdx, whole-moves, all-moves}
 
@@ -59,16 +60,6 @@ module _ (f : Floor) (W : Waits) (r : Record) (e : ℕ) where
   sre-over : getD (W .holds) 3 0 ≤ e → f .idle ≤ e → f .out ≤ e → waitFor (under f W) Sre r ≤ e
   unfolding under
   sre-over h l m = omega arith
-
--- and of an entry
-entry-over : (f : Floor) (W : Waits) (e : ℕ) → Entered e f (W .pre) (W .holds) → entryOver (under f W) e ≡ true
-unfolding under
-entry-over f W e h =
-    rw (
-      le-leb (greatest (table (λ b. max (getD (W .pre) b 0) (f .pre))) 8) e (most-below (table (λ b. max (getD (W .pre) b 0) (f .pre))) 8 e
-          (λ b k. rw (getD-table (λ b. max (getD (W .pre) b 0) (f .pre)) b 0 k) (omega (arith, h .ready b k, h .floor)))),
-      le-leb 3 (e - max (getD (W .holds) 3 0) (max (f .idle) (f .out))) (omega (arith, h .own, h .starts, h .reads)),
-    )
 
 -- the track after a seldom command
 abbrev pub trackAfter : Track → (e n : ℕ) (shutat shutno : List ℕ) → Floor → Track
@@ -139,9 +130,12 @@ module _ (C : Chip) (d : Rest) (t : Track) (r : Record) where
     idling : {a : ℕ} {b : ℕ} → Rested (t .banks .actno) (t .banks .shutat) (t .banks .shutno) a b e → (x : ℕ) → x < 8 → Idling C (t .banks) x e
     idling q x l = (q .all .closed x l, q .all .over x l)
 
-    fine-as : (c : Command) → commandIn s r ≡ c
-        → MayCome (C .header) c r e f (t .banks .actno) (t .banks .shutat) (t .banks .shutno) (t .pre) (d .holds) (d .device .at) (d .device .no) (d .device .need)
-        → AllFine C (rankOf d t) r e
+    abbrev May : Command → Type 0
+    May c =
+        MayCome (C .header) (C .tmod) c r e f (t .banks .actno) (t .banks .colat) (t .banks .colno) (t .banks .colpre) (t .banks .shutat) (t .banks .shutno) (t .pre)
+        (d .holds) (d .device .at) (d .device .no) (d .device .need) (d .device .codes)
+
+    fine-as : (c : Command) → commandIn s r ≡ c → May c → AllFine C (rankOf d t) r e
     unfolding settled
     fine-as Pre h m = all-fine C (rankOf d t) r e h (m .0) (m .1 .calm) (pre-over f (s .waits) r e (m .0) (m .1 .ready) (m .2))
     fine-as Ref h m = ref-fine C (rankOf d t) r e h (idling m) (ref-over f (s .waits) r e (m .own) (m .starts))
@@ -156,7 +150,7 @@ module _ (C : Chip) (d : Rest) (t : Track) (r : Record) where
     fine-as Rd h m = absurd m
     fine-as Wr h m = absurd m
     fine-as Bad h m = absurd m
-    fine-as Pde h m = pde-fine C (rankOf d t) r e h (entry-over f (s .waits) e (m .0)) (m .1)
+    fine-as Pde h m = pde-fine C (rankOf d t) r e h (entered-fine C (t .banks) (t .acts) (d .device) e (m .0)) (m .1)
     fine-as Pdx h m = pdx-fine C (rankOf d t) r e h m
 
     -- a PRE leaves the debt and the device alone
@@ -177,9 +171,7 @@ module _ (C : Chip) (d : Rest) (t : Track) (r : Record) where
     unfolding debtNext deviceNext
     pre-same = refl
 
-    pub seldom-step : (c : Command) → commandIn s r ≡ c
-        → MayCome (C .header) c r e f (t .banks .actno) (t .banks .shutat) (t .banks .shutno) (t .pre) (d .holds) (d .device .at) (d .device .no) (d .device .need)
-        → stepOf C (rankOf d t) r ≡ rankOf (nextRest c) (nextTrack c)
+    pub seldom-step : (c : Command) → commandIn s r ≡ c → May c → stepOf C (rankOf d t) r ≡ rankOf (nextRest c) (nextTrack c)
     seldom-step Pre h m = step-moves (fine-as Pre h m) ∙ all-moves C s f r h (m .0) ∙ pre-same
     seldom-step Ref h m = step-moves (fine-as Ref h m) ∙ whole-moves C s f r size Ref is-ref h
     seldom-step Zq h m = step-moves (fine-as Zq h m) ∙ whole-moves C s f r size Zq is-zq h

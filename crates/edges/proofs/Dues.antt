@@ -3,7 +3,7 @@
 use Prim.Native.Nat.{ℕ, _+_, _≤_, _<_}
 use native.Mathlib.Omega.{arith}
 use mathlib.Core.Bool.{Bool, true, false, cond, _&&_, _||_, true≢false}
-use mathlib.Core.Logic.{_⊎_, inl, inr, ⊎-elim}
+use mathlib.Core.Logic.{inl, inr, ⊎-elim}
 use mathlib.Core.Path.{_≡_, refl, sym, _∙_, subst}
 use lib.Dec.{eqb, ltb, leb}
 use lib.ListN.{getD}
@@ -37,12 +37,12 @@ closed-off lo hi x most a n y m y′ k l g h = rw (le-ltb k n g) (go (ltb (a + m
     go true = off-later lo hi x (a + most + 1) l h
     go false = inl (omega arith)
 
--- one that is closed at the edge itself
-pub now-off : (hi x most a n k : ℕ) → n ≤ k → Off hi x (dueBy most a n hi k)
-now-off hi x most a n k g = rw (le-ltb k n g) (go (ltb (a + most) hi) refl)
+-- one that is idle at the edge
+pub idle-off : (hi x most a n y k : ℕ) → n ≤ k → y ≤ hi → Off hi x (dueBy most a n y k)
+idle-off hi x most a n y k g l = rw (le-ltb k n g) (go (ltb (a + most) y) refl)
   where
-    go : (z : Bool) → ltb (a + most) hi ≡ z → Off hi x (cond z (a + most + 1) 0)
-    go true e = inl (omega (arith, ltb-true (a + most) hi e))
+    go : (z : Bool) → ltb (a + most) y ≡ z → Off hi x (cond z (a + most + 1) 0)
+    go true e = inl (omega (arith, ltb-true (a + most) y e))
     go false e = inl (omega arith)
 
 -- one that is opened at the edge itself

@@ -7,7 +7,7 @@ use mathlib.Core.Logic.{_⊎_, inl, inr, ⊎-elim}
 use mathlib.Core.Path.{_≡_, ap}
 use lib.ListN.{getD}
 use lib.Dec.{leb}
-use borrow.Author.Tests.{le-ltb, le-leb, lt-leb, ne-eqb}
+use borrow.Author.Tests.{le-ltb, lt-leb, ne-eqb}
 use Rattle.answers.specs.declared.Break.{Break}
 use Rattle.answers.specs.declared.Break.the-variants.{Fine}
 use Rattle.records.specs.declared.Record.{Record}

@@ -29,7 +29,7 @@ use Rattle.edges.specs.declared.Banks.{Banks}
 use Rattle.edges.specs.declared.Rank.{Rank}
 use Rattle.edges.specs.Views.{keptOf, keptsOf, sharedOf, restsOf, writtenOf, REF, SRE, SRX, CKE}
 use Rattle.edges.specs.Asks.{waitFor}
-use Rattle.edges.specs.Says.{spacedIn, brokenIn, entryOver, changedIn, leftIn, commandIn, sharedIn, lastRules}
+use Rattle.edges.specs.Says.{spacedIn, brokenIn, changedIn, leftIn, commandIn, sharedIn, lastRules}
 use Rattle.edges.proofs.Easy.{AllFine}
 
 -- all four registers are written
@@ -146,15 +146,22 @@ module _ (C : Chip) (s : Rank) (r : Record) (e : ℕ) where
   turned-none (inl n) = rw n
   turned-none (inr l) = rw (le-ltb (e - getD (s .device .at) CKE 0) (getD (s .device .need) CKE 0) l) (either-way (turns (s .level) r))
 
-  -- no entry, or nothing asks of it any more
-  changed-none : (c : Command) → commandIn s r ≡ c → (isA Pde c ≡ false) ⊎ (entryOver (s .waits) e ≡ true) → Turned → changedIn C s r e ≡ Fine
-  unfolding changedIn rule26 orElse
-  changed-none c h (inl n) t = rw (h, n) (rw (either-way (entryOver (s .waits) e)) (turned-none t))
-  changed-none c h (inr y) t = rw y (turned-none t)
+  -- no record has anything to ask of an entry
+  abbrev Enters : Command → Type 0
+  Enters c = rule26 C c (keptsOf C (s .banks)) (sharedIn C s) e ≡ Fine
+
+  -- a command that is none
+  no-entry : (c : Command) → isA Pde c ≡ false → Enters c
+  unfolding rule26
+  no-entry c n = rw n
+
+  changed-none : (c : Command) → commandIn s r ≡ c → Enters c → Turned → changedIn C s r e ≡ Fine
+  unfolding changedIn orElse
+  changed-none c h n t = rw (h, n) (turned-none t)
 
   fine-none : (c : Command) → commandIn s r ≡ c → rule1 c ≡ Fine → rule2 c r (keptsOf C (s .banks)) e ≡ Fine
       → rule3 C c r (writtenOf (s .device)) ≡ Fine → waitFor (s .waits) c r ≤ e → lastRules c e (sharedIn C s) ≡ Fine
-      → (isA Pde c ≡ false) ⊎ (entryOver (s .waits) e ≡ true) → Turned → AllFine C s r e
+      → Enters c → Turned → AllFine C s r e
   fine-none c h one two three l last entry turn =
       record { broken = broken-none c h one two three l last; changed = changed-none c h entry turn; left = left-none c h l }
 
@@ -163,7 +170,7 @@ module _ (C : Chip) (s : Rank) (r : Record) (e : ℕ) where
       → rule2 c r (keptsOf C (s .banks)) e ≡ Fine → rule3 C c r (writtenOf (s .device)) ≡ Fine → waitFor (s .waits) c r ≤ e
       → lastRules c e (sharedIn C s) ≡ Fine → AllFine C s r e
   fine-still c h n b d one two three l last =
-      fine-none c h one two three l last (inl d) (inl (still-level (s .level) (s .debt .sleeps) r (ap changing h ∙ n) (ap (isA Bad) h ∙ b)))
+      fine-none c h one two three l last (no-entry c d) (inl (still-level (s .level) (s .debt .sleeps) r (ap changing h ∙ n) (ap (isA Bad) h ∙ b)))
 
   abbrev B : Banks
   B = s .banks
@@ -226,7 +233,7 @@ module _ (C : Chip) (s : Rank) (r : Record) (e : ℕ) where
   unfolding rule3 sharedOf restsOf
   sre-fine h i z l k =
       fine-none Sre h refl (two-all C B r e Sre refl (λ b z. bars-idle C B b e 1 refl (i b z))) refl l
-      (rw (le-ltb (getD (s .device .no) REF 0) (getD (s .device .no) SRX 0) z)) (inl refl) (inr k)
+      (rw (le-ltb (getD (s .device .no) REF 0) (getD (s .device .no) SRX 0) z)) (no-entry Sre refl) (inr k)
 
   -- rule 22
   pub srx-fine : commandIn s r ≡ Srx → getD (s .device .need) SRE 0 ≤ e - getD (s .device .at) SRE 0
@@ -234,15 +241,15 @@ module _ (C : Chip) (s : Rank) (r : Record) (e : ℕ) where
   unfolding rule3 sharedOf restsOf spaced
   srx-fine h z k =
       fine-none Srx h refl (two-own C B r e Srx refl (barred-none (statusOf (keptOf C B own) e))) refl (omega arith)
-      (rw (le-ltb (e - getD (s .device .at) SRE 0) (getD (s .device .need) SRE 0) z)) (inl refl) (inr k)
+      (rw (le-ltb (e - getD (s .device .at) SRE 0) (getD (s .device .need) SRE 0) z)) (no-entry Srx refl) (inr k)
 
   -- rules 26 and 27
-  pub pde-fine : commandIn s r ≡ Pde → entryOver (s .waits) e ≡ true → getD (s .device .need) CKE 0 ≤ e - getD (s .device .at) CKE 0 → AllFine C s r e
+  pub pde-fine : commandIn s r ≡ Pde → Enters Pde → getD (s .device .need) CKE 0 ≤ e - getD (s .device .at) CKE 0 → AllFine C s r e
   unfolding rule3
   pde-fine h y k =
-      fine-none Pde h refl (two-own C B r e Pde refl (barred-none (statusOf (keptOf C B own) e))) refl (omega arith) refl (inr y) (inr k)
+      fine-none Pde h refl (two-own C B r e Pde refl (barred-none (statusOf (keptOf C B own) e))) refl (omega arith) refl y (inr k)
 
   pub pdx-fine : commandIn s r ≡ Pdx → getD (s .device .need) CKE 0 ≤ e - getD (s .device .at) CKE 0 → AllFine C s r e
   unfolding rule3
   pdx-fine h k =
-      fine-none Pdx h refl (two-own C B r e Pdx refl (barred-none (statusOf (keptOf C B own) e))) refl (omega arith) refl (inl refl) (inr k)
+      fine-none Pdx h refl (two-own C B r e Pdx refl (barred-none (statusOf (keptOf C B own) e))) refl (omega arith) refl (no-entry Pdx refl) (inr k)

@@ -1,24 +1,23 @@
 -- The turns of the lane, for every rank of its arrays that is not broken.
 -- Assumes nothing.
-use Prim.Native.Nat.{ℕ, _+_, _-_, _*_, _%_, _≤_, _<_}
+use Prim.Native.Nat.{ℕ, _+_, _-_, _*_, _%_, _≤_, _<_, min}
 use native.Mathlib.Omega.{arith}
 use mathlib.Core.Bool.{Bool, true, false, cond, not, _&&_, _||_, true≢false}
 use mathlib.Core.List.{List}
-use mathlib.Core.Logic.{_⊎_, inl, inr, ⊎-elim}
+use mathlib.Core.Logic.{inl, inr, ⊎-elim}
 use mathlib.Core.Path.{_≡_, refl, sym, ap, _∙_, subst}
 use lib.Dec.{eqb, leb, ltb}
 use lib.ListN.{getD, length}
 use Rattle.laws.specs.Any.{anyOf}
 use Rattle.codes.specs.Codes.{set as set1}
-use borrow.Author.Tests.{eqb-false, leb-false, not-false}
+use borrow.Author.Tests.{eqb-false, leb-false}
 use Rattle.laws.specs.Eight.{table}
 use Rattle.header.specs.declared.Header.{Header}
 use Rattle.answers.specs.declared.Verdict.{Verdict}
 use Rattle.records.specs.declared.Record.{Record}
 use Rattle.records.specs.declared.Command.{Command}
 use Rattle.records.specs.declared.Command.the-variants.{Mrs, Ref, Pre, Act, Wr, Rd, Zq, Nop, Des, Sre, Srx, Low, Bad, Pde, Pdx}
-use Rattle.records.specs.Record.{recordAt}
-use Rattle.records.specs.Command.{rank, isA, bankIn, falling, commandOf}
+use Rattle.records.specs.Command.{isA, bankIn, falling, commandOf}
 use Rattle.chip.specs.declared.Chip.{Chip}
 use Rattle.chip.specs.declared.Regs.{Regs}
 use Rattle.running.specs.declared.Asks.{Asks}
@@ -27,6 +26,7 @@ use Rattle.running.specs.Next.{changing}
 use Rattle.running.specs.Said.{noVerdict}
 use Rattle.running.specs.Ranges.{lastEdge, farEdge}
 use Rattle.laws.proofs.Both.{both, neither}
+use Rattle.laws.proofs.Eight.{getD-table}
 use Rattle.edges.specs.declared.Banks.{Banks}
 use Rattle.edges.specs.declared.Device.{Device}
 use Rattle.edges.specs.declared.Debt.{Debt}
@@ -35,13 +35,14 @@ use Rattle.edges.specs.Views.{regsOf, writtenOf, CKE, PDX, SLOW}
 use Rattle.edges.specs.Asks.{need18}
 use Rattle.edges.specs.Next.{setIf, counting, paid, slowNow, stamped, debtNext, deviceNext, noneOpen}
 use Rattle.edges.specs.Step.{stepOf}
-use Rattle.edges.specs.Clearing.{Off, Clears, Owing, Staying, Anew}
+use Rattle.edges.specs.Clearing.{Off, Clears, Owing, Staying, owingBy, clearNext}
 use Rattle.edges.specs.Ways.{floorNext}
-use Rattle.edges.specs.Seldom.{MayCome}
+use Rattle.edges.specs.Seldom.{AllIdle, MayCome}
 use Rattle.edges.specs.Ranges.{farthest}
 use Rattle.edges.specs.Running.{Track, Rest, rankOf, allWritten, Standing, Quickly}
-use Rattle.edges.specs.Lane.{restBy, Fit, Clear, Folding, Laning, Smoothly, Leaves, Passes}
-use Rattle.edges.proofs.Dues.{due-at, same-soon}
+use Rattle.edges.specs.Lane.{restBy, Fit, Clear, Folding, Laning, Smoothly, Leaves, Came, Unmoved}
+use Rattle.edges.proofs.Dues.{due-at, NoneSoon, same-soon, idle-off}
+use Rattle.edges.proofs.Clearing.{off-sooner, next-owed, next-near, next-below}
 use Rattle.edges.proofs.Folding.{Lengths}
 use Rattle.edges.proofs.Turns.{fold-start, quick-stands, quick-still, quick-done, fold-more}
 use Rattle.edges.proofs.Coming.{trackAfter, nextRest, nextTrack, seldom-step}
@@ -126,41 +127,46 @@ unfolding slowNow noneOpen
 slow-by B D = refl
 
 -- a command that may come is no bad one
-may-good : (h : Header) (c : Command) (r : Record) (e : ℕ) (f : Floor) (an sa sn p hs a m k : List ℕ) → MayCome h c r e f an sa sn p hs a m k → isA Bad c ≡ false
-may-good h Mrs r e f an sa sn p hs a m k w = refl
-may-good h Ref r e f an sa sn p hs a m k w = refl
-may-good h Pre r e f an sa sn p hs a m k w = refl
-may-good h Act r e f an sa sn p hs a m k w = refl
-may-good h Wr r e f an sa sn p hs a m k w = refl
-may-good h Rd r e f an sa sn p hs a m k w = refl
-may-good h Zq r e f an sa sn p hs a m k w = refl
-may-good h Nop r e f an sa sn p hs a m k w = refl
-may-good h Des r e f an sa sn p hs a m k w = refl
-may-good h Sre r e f an sa sn p hs a m k w = refl
-may-good h Srx r e f an sa sn p hs a m k w = refl
-may-good h Low r e f an sa sn p hs a m k w = refl
-may-good h Pde r e f an sa sn p hs a m k w = refl
-may-good h Pdx r e f an sa sn p hs a m k w = refl
-may-good h Bad r e f an sa sn p hs a m k w = absurd w
+may-good : (h : Header) (t : ℕ) (c : Command) (r : Record) (e : ℕ) (f : Floor) (an ca cn cp sa sn p hs a m k g : List ℕ)
+    → MayCome h t c r e f an ca cn cp sa sn p hs a m k g → isA Bad c ≡ false
+may-good h t Mrs r e f an ca cn cp sa sn p hs a m k g w = refl
+may-good h t Ref r e f an ca cn cp sa sn p hs a m k g w = refl
+may-good h t Pre r e f an ca cn cp sa sn p hs a m k g w = refl
+may-good h t Act r e f an ca cn cp sa sn p hs a m k g w = refl
+may-good h t Wr r e f an ca cn cp sa sn p hs a m k g w = refl
+may-good h t Rd r e f an ca cn cp sa sn p hs a m k g w = refl
+may-good h t Zq r e f an ca cn cp sa sn p hs a m k g w = refl
+may-good h t Nop r e f an ca cn cp sa sn p hs a m k g w = refl
+may-good h t Des r e f an ca cn cp sa sn p hs a m k g w = refl
+may-good h t Sre r e f an ca cn cp sa sn p hs a m k g w = refl
+may-good h t Srx r e f an ca cn cp sa sn p hs a m k g w = refl
+may-good h t Low r e f an ca cn cp sa sn p hs a m k g w = refl
+may-good h t Pde r e f an ca cn cp sa sn p hs a m k g w = refl
+may-good h t Pdx r e f an ca cn cp sa sn p hs a m k g w = refl
+may-good h t Bad r e f an ca cn cp sa sn p hs a m k g w = absurd w
 
--- nor does a seldom command that is no entry bring the end of a stay
+-- no stay is too long before the next edge
 kept-stays :
-    (C : Chip) (c : Command) (r : Record) (e n : ℕ) (slow l : Bool) (x : Debt) (D : Device) (x′ : Debt) (D′ : Device) (clear : ℕ)
-    → c ≡ commandOf l (x .sleeps) r → isA Pde c ≡ false → isA Bad c ≡ false → x′ ≡ debtNext C c e x → D′ ≡ deviceNext C c r e n slow D
-    → Staying l (x .sleeps) (getD (D .at) CKE 0) (C .stay) clear → Staying (r .cke) (x′ .sleeps) (getD (D′ .at) CKE 0) (C .stay) clear
-unfolding commandOf falling debtNext deviceNext
-kept-stays C c r e n slow l x D x′ D′ clear names up good debt device st =
+    (C : Chip) (c : Command) (r : Record) (e n : ℕ) (slow l : Bool) (x : Debt) (D : Device) (x′ : Debt) (D′ : Device) (at clear : ℕ)
+    → c ≡ commandOf l (x .sleeps) r → isA Bad c ≡ false → x′ ≡ debtNext C c e x → D′ ≡ deviceNext C c r e n slow D → at ≡ getD (D′ .at) CKE 0
+    → Staying l (x .sleeps) (getD (D .at) CKE 0) (C .stay) clear
+    → Staying (r .cke) (x′ .sleeps) (getD (D′ .at) CKE 0) (C .stay) (clearNext (C .most) (C .stay) c e at x′ clear)
+unfolding commandOf falling debtNext deviceNext clearNext
+kept-stays C c r e n slow l x D x′ D′ at clear names good debt device turns st =
     go (r .cke) refl l refl (eqb (r .pins) 1) refl (leb 7 (r .pins)) refl
   where
-    go : (k : Bool) → r .cke ≡ k → (b : Bool) → l ≡ b → (y : Bool) → eqb (r .pins) 1 ≡ y → (z : Bool) → leb 7 (r .pins) ≡ z
-        → Staying k (x′ .sleeps) (getD (D′ .at) CKE 0) (C .stay) clear
+    Stays : Bool → Type 0
+    Stays k = Staying k (x′ .sleeps) (getD (D′ .at) CKE 0) (C .stay) (cond (isA Ref c || isA Pre c) (owingBy x′ (e + C .most + 1))
+        (cond (isA Srx c) (owingBy x′ clear) (cond (isA Pde c) (min clear (at + C .stay + 1)) clear)))
+
+    go : (k : Bool) → r .cke ≡ k → (b : Bool) → l ≡ b → (y : Bool) → eqb (r .pins) 1 ≡ y → (z : Bool) → leb 7 (r .pins) ≡ z → Stays k
     go true i b j y u z v = inl refl
     go false i true j true u z v =
         let q : c ≡ Sre = names ∙ rw (i, j, u) in
         inr (inl (ap (λ (d : Debt). d .sleeps) debt ∙ rw q))
     go false i true j false u true v =
         let q : c ≡ Pde = names ∙ rw (i, j, u, v) in
-        absurd (true≢false (sym (ap (isA Pde) q) ∙ up))
+        rw (q, ← turns) (inr (inr (omega arith)))
     go false i true j false u false v =
         let q : c ≡ Bad = names ∙ rw (i, j, u, v) in
         absurd (true≢false (sym (ap (isA Bad) q) ∙ good))
@@ -168,7 +174,26 @@ kept-stays C c r e n slow l x D x′ D′ clear names up good debt device st =
         let q : c ≡ Low = names ∙ rw (i, j) in
         let same : x′ ≡ x = debt ∙ rw q in
         let whole : D′ .at ≡ D .at = ap (λ (d : Device). d .at) device ∙ rw q in
-        rw (same, whole) (inr (⊎-elim (λ w. absurd (true≢false (sym w ∙ j))) (λ w. w) st))
+        rw (q, same, whole) (inr (⊎-elim (λ w. absurd (true≢false (sym w ∙ j))) (λ w. w) st))
+
+-- behind a REF all banks are idle
+ref-idle : (h : Header) (t : ℕ) (c : Command) (r : Record) (e : ℕ) (f : Floor) (an ca cn cp sa sn p hs a m k g : List ℕ)
+    → MayCome h t c r e f an ca cn cp sa sn p hs a m k g → isA Ref c ≡ true → (isA Pre c ≡ false) × AllIdle an sa sn e
+ref-idle h t Ref r e f an ca cn cp sa sn p hs a m k g w z = (refl, w .all)
+ref-idle h t Mrs r e f an ca cn cp sa sn p hs a m k g w z = absurd (true≢false (sym z))
+ref-idle h t Pre r e f an ca cn cp sa sn p hs a m k g w z = absurd (true≢false (sym z))
+ref-idle h t Act r e f an ca cn cp sa sn p hs a m k g w z = absurd (true≢false (sym z))
+ref-idle h t Wr r e f an ca cn cp sa sn p hs a m k g w z = absurd (true≢false (sym z))
+ref-idle h t Rd r e f an ca cn cp sa sn p hs a m k g w z = absurd (true≢false (sym z))
+ref-idle h t Zq r e f an ca cn cp sa sn p hs a m k g w z = absurd (true≢false (sym z))
+ref-idle h t Nop r e f an ca cn cp sa sn p hs a m k g w z = absurd (true≢false (sym z))
+ref-idle h t Des r e f an ca cn cp sa sn p hs a m k g w z = absurd (true≢false (sym z))
+ref-idle h t Sre r e f an ca cn cp sa sn p hs a m k g w z = absurd (true≢false (sym z))
+ref-idle h t Srx r e f an ca cn cp sa sn p hs a m k g w z = absurd (true≢false (sym z))
+ref-idle h t Low r e f an ca cn cp sa sn p hs a m k g w z = absurd (true≢false (sym z))
+ref-idle h t Bad r e f an ca cn cp sa sn p hs a m k g w z = absurd (true≢false (sym z))
+ref-idle h t Pde r e f an ca cn cp sa sn p hs a m k g w z = absurd (true≢false (sym z))
+ref-idle h t Pdx r e f an ca cn cp sa sn p hs a m k g w z = absurd (true≢false (sym z))
 
 -- the beginning
 pub lane-start : (C : Chip) (bytes : List ℕ) (from : ℕ) (l : Bool) (x : Debt) (h : List ℕ) (D : Device) (t : Track) (clear : ℕ) (real : Bool) (w : Asks)
@@ -202,6 +227,11 @@ module _ {C : Chip} {bytes : List ℕ} {from : ℕ} {l₀ : Bool} {x₀ : Debt} 
 
     pub lane-out : Smoothly C bytes from l₀ x₀ h₀ D₀ t₀ l x h D t at
     lane-out = record { fit = record { base = one .base; debt = one .debt; turned = one .turned }; along = λ v z k. f .each v z k .along; later = one .later }
+
+    -- where the next record does not come
+    pub lane-unmoved : {sa sn h′ : List ℕ} {D′ : Device} → Unmoved h D (t .banks .shutat) (t .banks .shutno) sa sn h′ D′
+        → Smoothly C bytes from l₀ x₀ h₀ D₀ t₀ l x h′ D′ (trackAfter t (t .edge) (t .count) sa sn (t .floor)) at
+    lane-unmoved same = rw (same .starts, same .closers, same .held, same .device) lane-out
 
     -- what the registers ask, worked out anew where it is asked for
     lane-asks : (usual : Bool) (w′ : Asks) → (stale && usual ≡ true → Asked C (regsOf D) w′) → (stale && usual ≡ false → w′ ≡ w)
@@ -264,39 +294,35 @@ module _ {C : Chip} {bytes : List ℕ} {from : ℕ} {l₀ : Bool} {x₀ : Debt} 
       fresh false u z = refl
       fresh true false z = absurd (true≢false (sym z))
 
+  -- edge, level and what is stale by another name
+  same-place : (stale : Bool) {clear : ℕ} {real : Bool} {w : Asks} {x : Debt} {h : List ℕ} {D : Device} (t : Track) {n : ℕ} {sa sn : List ℕ} {f : Floor} {at e e′ : ℕ} {l l′ m m′ : Bool}
+      → e ≡ e′ → l ≡ l′ → m ≡ m′ → Laning C bytes from l₀ x₀ h₀ D₀ t₀ clear real (stale || m′) w l′ x h D (trackAfter t e′ n sa sn f) at
+      → Laning C bytes from l₀ x₀ h₀ D₀ t₀ clear real (stale || m) w l x h D (trackAfter t e n sa sn f) at
+  same-place stale t p q o z = rw (p, q, o) z
+
   module _ {clear : ℕ} {real stale : Bool} {w : Asks} {l : Bool} {x : Debt} {h : List ℕ} {D : Device} {t : Track} {at : ℕ}
       (f : Laning C bytes from l₀ x₀ h₀ D₀ t₀ clear real stale w l x h D t at) where
-    -- a seldom command that may come
-    module _ (more : at < length bytes) (r : Record) (is : r ≡ recordAt bytes at) (c : Command) (names : c ≡ commandOf l (x .sleeps) r) (m : Bool)
-        (test : (eqb (r .step) 0 || leb clear (t .edge + r .step)) || not m ≡ false)
-        (may : m ≡ true → MayCome (C .header) c r (t .edge + r .step) (t .floor) (t .banks .actno) (t .banks .shutat) (t .banks .shutno) (t .pre) h (D .at) (D .no) (D .need)) where
-      tests : (eqb (r .step) 0 || leb clear (t .edge + r .step) ≡ false) × (not m ≡ false)
-      tests = neither (eqb (r .step) 0 || leb clear (t .edge + r .step)) (not m) test
+    -- the next record is a seldom command that comes, and what it leaves behind
+    module _ (more : at < length bytes) {l′ mode : Bool} {e′ : ℕ} {x′ : Debt} {f′ : Floor} {clear′ : ℕ} {sa sn h′ : List ℕ} {D′ : Device}
+        (came : Came C bytes at l x h D (t .edge) (t .count) (t .banks .actno) (t .banks .colat) (t .banks .colno) (t .banks .colpre) (t .banks .shutat)
+        (t .banks .shutno) (t .pre) (t .floor) clear real l′ mode e′ x′ f′ clear′ sa sn h′ D′) where
+      abbrev r : Record
+      r = came .next
 
-      now : (eqb (r .step) 0 ≡ false) × (leb clear (t .edge + r .step) ≡ false)
-      now = neither (eqb (r .step) 0) (leb clear (t .edge + r .step)) (tests .0)
+      abbrev c : Command
+      c = came .command
 
       some : r .step ≡ 0 → ⊥
-      some = eqb-false (r .step) 0 (now .0)
+      some = eqb-false (r .step) 0 (came .some)
 
       before : t .edge + r .step < clear
-      before = leb-false clear (t .edge + r .step) (now .1)
+      before = leb-false clear (t .edge + r .step) (came .before)
 
-      pub lane-seldom :
-          (sa sn h′ : List ℕ) (D′ : Device) (x′ : Debt) (f′ : Floor) (clear′ : ℕ)
-          → Passes C c r (t .edge + r .step) (t .count + 1) (t .banks .actat) (t .banks .actno) (t .banks .shutat) (t .banks .shutno) h D x (t .floor) clear sa sn h′ D′ x′ f′ clear′
-          → (k : ℕ) → k ≡ rank c
-          → Laning C bytes from l₀ x₀ h₀ D₀ t₀ clear′ real (stale || eqb k 0) w (r .cke) x′ h′ D′ (trackAfter t (t .edge + r .step) (t .count + 1) sa sn f′) (at + 6)
-      lane-seldom sa sn h′ D′ x′ f′ clear′ passes k is-k = rw is-k (record { each = seldom })
+      pub lane-seldom : Laning C bytes from l₀ x₀ h₀ D₀ t₀ clear′ real (stale || mode) w l′ x′ h′ D′ (trackAfter t e′ (t .count + 1) sa sn f′) (at + 6)
+      lane-seldom = same-place stale t (came .edge) (came .level) (came .sets) (record { each = seldom })
         where
-          left : Leaves C c r (t .edge + r .step) (t .count + 1) (t .banks .actno) (t .banks .shutat) (t .banks .shutno) h D x (t .floor) sa sn h′ D′ x′ f′ (passes .turned)
-          left = passes .left
-
-          moves : Bool
-          moves = (isA Ref c || isA Pre c) || (isA Srx c || isA Pde c)
-
-          anew : Anew moves (C .most) (t .banks .actat) (t .banks .actno) sa sn (t .edge + r .step) x′ (r .cke) (passes .turned) (C .stay) clear clear′
-          anew = passes .anew
+          left : Leaves C c r (t .edge + r .step) (t .count + 1) (t .banks .actno) (t .banks .shutat) (t .banks .shutno) h D x (t .floor) sa sn h′ D′ x′ f′ (came .passes .turned)
+          left = came .passes .left
 
           slow : Bool
           slow = left .slow
@@ -308,8 +334,8 @@ module _ {C : Chip} {bytes : List ℕ} {from : ℕ} {l₀ : Bool} {x₀ : Debt} 
               → Folding C (rankOf (restBy l₀ x₀ h₀ D₀ v) t₀) from bytes clear′ real (stale || isA Mrs c) w (restBy (r .cke) x′ h′ D′ v)
               (trackAfter t (t .edge + r .step) (t .count + 1) sa sn f′) (at + 6)
           seldom v z u =
-              fold-more C (rankOf (restBy l₀ x₀ h₀ D₀ v) t₀) from bytes g more r is some (restBy (r .cke) x′ h′ D′ v) t′ clear′ (stale || isA Mrs c) w real (step ∙ same) long
-              (free moves refl) (λ y b i. omega (arith, g .acting y b i)) z asks
+              fold-more C (rankOf (restBy l₀ x₀ h₀ D₀ v) t₀) from bytes g more r (came .is) some (restBy (r .cke) x′ h′ D′ v) t′ clear′ (stale || isA Mrs c) w real (step ∙ same) long
+              free (λ y b i. omega (arith, g .acting y b i)) z asks
             where
               g : Folding C (rankOf (restBy l₀ x₀ h₀ D₀ v) t₀) from bytes clear real stale w (restBy l x h D v) t at
               g = f .each v z u
@@ -331,7 +357,7 @@ module _ {C : Chip} {bytes : List ℕ} {from : ℕ} {l₀ : Bool} {x₀ : Debt} 
 
               step : stepOf C (rankOf (restBy l x h D v) t) r ≡ rankOf (nextRest C (restBy l x h D v) t r c) (nextTrack C (restBy l x h D v) t r c)
               step = seldom-step C (restBy l x h D v) t r clear (g .free) z before
-                  (record { act = g .base .actsize; col = g .base .colsize; pre = g .base .presize }) c (sym names) (may (not-false m (tests .1)))
+                  (record { act = g .base .actsize; col = g .base .colsize; pre = g .base .presize }) c (sym (came .names)) (came .may)
 
               device : deviceNext C c r (t .edge + r .step) (t .count + 1) (slowNow (t .banks) D) D ≡ D′
               device = sym (slow-device C c r (t .edge + r .step) (t .count + 1) slow (slowNow (t .banks) D) D is-slow) ∙ sym (left .device)
@@ -344,8 +370,8 @@ module _ {C : Chip} {bytes : List ℕ} {from : ℕ} {l₀ : Bool} {x₀ : Debt} 
                   (trackAfter t (t .edge + r .step) (t .count + 1) (sym (left .starts) i) (sym (left .closers) i) (floor i))
 
               good : isA Bad c ≡ false
-              good = may-good (C .header) c r (t .edge + r .step) (t .floor) (t .banks .actno) (t .banks .shutat) (t .banks .shutno) (t .pre) h (D .at) (D .no) (D .need)
-                  (may (not-false m (tests .1)))
+              good = may-good (C .header) (C .tmod) c r (t .edge + r .step) (t .floor) (t .banks .actno) (t .banks .colat) (t .banks .colno) (t .banks .colpre) (t .banks .shutat)
+                  (t .banks .shutno) (t .pre) h (D .at) (D .no) (D .need) (D .codes) (came .may)
 
               regs : isA Mrs c ≡ false → regsOf D′ ≡ regsOf D
               regs m = ap (λ (y : Device). regsOf y) (left .device) ∙ same-regs C c r (t .edge + r .step) (t .count + 1) slow D m
@@ -353,19 +379,36 @@ module _ {C : Chip} {bytes : List ℕ} {from : ℕ} {l₀ : Bool} {x₀ : Debt} 
               asks : stale || isA Mrs c ≡ false → Asked C (regsOf D′) w
               asks e = let n = neither stale (isA Mrs c) e in subst (λ (G : Regs). Asked C G w) (sym (regs (n .1))) (g .asked (n .0))
 
-              free : (y : Bool) → moves ≡ y → Clear C clear′ (restBy (r .cke) x′ h′ D′ v) t′
-              free true y = cleared C clear′ (restBy (r .cke) x′ h′ D′ v) t′ (anew .due y) (anew .near y) (anew .owed y)
-                  (subst (λ (a : ℕ). Staying (r .cke) (x′ .sleeps) a (C .stay) clear′) (left .turns) (anew .stays y))
-              free false y =
-                  let n = neither (isA Ref c || isA Pre c) (isA Srx c || isA Pde c) y in
-                  let q = neither (isA Srx c) (isA Pde c) (n .1) in
-                  let none : isA Pre c ≡ false = neither (isA Ref c) (isA Pre c) (n .0) .1 in
-                  let awake : isA Srx c ≡ false = q .0 in
-                  let up : isA Pde c ≡ false = q .1 in
-                  rw (anew .kept y) (record {
-                    due = same-soon C (t .banks) (t′ .banks) (t .edge) (t .edge + r .step) clear (omega arith) refl refl (sym (left .starts ∙ rw none))
-                        (sym (left .closers ∙ rw none)) (g .free .due);
-                    near = omega (arith, g .free .near);
-                    owed = subst (λ (q : Debt). Owing q clear) (sym (left .debt)) (kept-owed C c (t .edge + r .step) x clear awake (g .free .owed));
-                    stays = kept-stays C c r (t .edge + r .step) (t .count + 1) slow l x D x′ D′ clear names up good (left .debt) (left .device) (g .free .stays);
-                  })
+              e₁ : ℕ
+              e₁ = t .edge + r .step
+
+              clear₁ : ℕ
+              clear₁ = clearNext (C .most) (C .stay) c e₁ (came .passes .turned) x′ clear
+
+              -- no bank comes due behind a REF or a PRE of all banks, and behind another none before the edge that was
+              due : (a b : Bool) → isA Ref c ≡ a → isA Pre c ≡ b → NoneSoon C (t′ .banks) e₁ clear₁
+              due true b p q =
+                  let idle = ref-idle (C .header) (C .tmod) c r e₁ (t .floor) (t .banks .actno) (t .banks .colat) (t .banks .colno) (t .banks .colpre) (t .banks .shutat)
+                  (t .banks .shutno) (t .pre) h (D .at) (D .no) (D .need) (D .codes) (came .may) p in
+                  same-soon C (t .banks) (t′ .banks) e₁ e₁ clear₁ (omega arith) refl refl (sym (left .starts ∙ rw (idle .0))) (sym (left .closers ∙ rw (idle .0)))
+                  (λ b k. subst (Off e₁ clear₁) (sym (due-at C (t .banks) b k)) (idle-off e₁ clear₁ (C .most) (getD (t .banks .actat) b 0) (getD (t .banks .actno) b 0)
+                  (getD (t .banks .shutat) b 0) (getD (t .banks .shutno) b 0) (idle .1 .closed b k) (idle .1 .over b k)))
+              due false true p q =
+                  let all : Track = trackAfter t e₁ (t .count + 1) (table (λ _. e₁)) (table (λ _. t .count + 1)) f′ in
+                  same-soon C (all .banks) (t′ .banks) e₁ e₁ clear₁ (omega arith) refl refl (sym (left .starts ∙ rw q)) (sym (left .closers ∙ rw q))
+                  (λ b k. subst (Off e₁ clear₁) (sym (due-at C (all .banks) b k)) (idle-off e₁ clear₁ (C .most) (getD (t .banks .actat) b 0) (getD (t .banks .actno) b 0)
+                  (getD (table (λ _. e₁)) b 0) (getD (table (λ _. t .count + 1)) b 0)
+                  (omega (arith, g .acting (came .acts q) b k, getD-table (λ _. t .count + 1) b 0 k)) (omega (arith, getD-table (λ _. e₁) b 0 k))))
+              due false false p q =
+                  λ b k. off-sooner e₁ clear clear₁ _ (next-below (C .most) (C .stay) c e₁ (came .passes .turned) x′ clear p q)
+                  (same-soon C (t .banks) (t′ .banks) (t .edge) e₁ clear (omega arith) refl refl (sym (left .starts ∙ rw q)) (sym (left .closers ∙ rw q)) (g .free .due) b k)
+
+              free : Clear C clear′ (restBy (r .cke) x′ h′ D′ v) t′
+              free = subst (λ (z : ℕ). Clear C z (restBy (r .cke) x′ h′ D′ v) t′) (sym (came .passes .clears)) (record {
+                due = due (isA Ref c) (isA Pre c) refl refl;
+                near = next-near (C .most) (C .stay) c e₁ (came .passes .turned) x′ clear (omega (arith, g .free .near));
+                owed = next-owed (C .most) (C .stay) c e₁ (came .passes .turned) x′ clear
+                    (λ z. subst (λ (q : Debt). Owing q clear) (sym (left .debt)) (kept-owed C c e₁ x clear z (g .free .owed)));
+                stays = kept-stays C c r e₁ (t .count + 1) slow l x D x′ D′ (came .passes .turned) clear (came .names) good (left .debt) (left .device) (left .turns)
+                    (g .free .stays);
+              })

@@ -15,6 +15,8 @@ pub mod Changing
 pub mod Resting
 pub mod Folding
 pub mod Turns
+pub mod Latest
+pub mod Entering
 pub mod Coming
 pub mod Lane
 pub mod Reaching

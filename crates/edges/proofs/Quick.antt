@@ -1,6 +1,6 @@
 -- The ways of the quick loop: each takes the loop one record further.
 -- Assumes nothing.
-use Prim.Native.Nat.{ℕ, _+_, _-_, _*_, _/_, _%_, _≤_, _<_}
+use Prim.Native.Nat.{ℕ, _+_, _*_, _/_, _%_, _≤_, _<_}
 use native.Mathlib.Omega.{arith}
 use mathlib.Core.Bool.{Bool, true, false, cond, not, _&&_, _||_}
 use mathlib.Core.List.{List}
@@ -25,7 +25,7 @@ use Rattle.edges.specs.Ways.{raisedAt, shutFloor, columnFloor, colPre, c
 use Rattle.edges.specs.Step.{stepOf}
 use Rattle.edges.specs.Running.{Track, Rest, rankOf, Quiet, Standing, Quickly}
 use Rattle.edges.proofs.Lists.{getD-set}
-use Rattle.edges.proofs.Dues.{due-at, NoneSoon, same-soon, other-soon, open-off, closed-off, now-off, opened-off}
+use Rattle.edges.proofs.Dues.{due-at, NoneSoon, same-soon, other-soon, open-off, closed-off, idle-off, opened-off}
 use Rattle.edges.specs.Clearing.{Off}
 use Rattle.edges.proofs.Turning.{nop-turn, des-turn, pre-turn, act-turn, rd-turn, rd-auto-turn, wr-turn, wr-auto-turn}
 use Rattle.edges.proofs.Stands.{further, quick-more, last-edge}
@@ -121,7 +121,7 @@ module _ (C : Chip) (w : Asks) (put dll : Bool) (clear : ℕ) (bytes : List ℕ)
       (omega (arith, acting-own own (omega arith)))
       (open-off (t .edge) clear (C .most) (getD (B .actat) own 0) (getD (B .actno) own 0) (getD (B .shutat) own 0) (getD (B .shutno) own 0) l
       (subst (Off (t .edge) clear) (due-at C B own (omega arith)) (st .due own (omega arith)))))
-      (λ (z : x ≡ e). rw z (now-off e clear (C .most) (getD (B .actat) own 0) (getD (B .actno) own 0) n (omega (arith, acting-own own (omega arith)))))
+      (λ (z : x ≡ e). rw z (idle-off e clear (C .most) (getD (B .actat) own 0) (getD (B .actno) own 0) e n (omega (arith, acting-own own (omega arith))) (omega arith)))
       k)
 
   pub quick-pre : r .pins ≡ 2 → a10 r ≡ false

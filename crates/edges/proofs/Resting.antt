@@ -1,17 +1,18 @@
--- Going through the banks one by one: so far all are idle, or none is closing.
+-- Going through the banks one by one: so far all are idle, or none is closing, or none has anything to ask of a power-down entry.
 -- Assumes nothing.
-use Prim.Native.Nat.{ℕ, _+_, _≤_, _<_}
+use Prim.Native.Nat.{ℕ, _+_, _-_, _≤_, _<_}
 use native.Mathlib.Omega.{arith}
 use native.Mathlib.Decide.{ℕ-discrete}
-use mathlib.Core.Bool.{Bool, true, false, _&&_, _||_}
+use mathlib.Core.Bool.{Bool, true, false, not, _&&_, _||_}
 use mathlib.Core.List.{List}
 use mathlib.Core.Logic.{_⊎_, inl, inr}
-use mathlib.Core.Path.{_≡_, refl, sym, subst}
+use mathlib.Core.Path.{_≡_, refl, sym, _∙_, subst}
 use lib.Dec.{leb, ltb}
 use lib.ListN.{getD}
-use borrow.Author.Tests.{leb-false, ltb-false}
+use borrow.Author.Tests.{leb-true, leb-false, ltb-false, not-false}
 use Rattle.laws.proofs.Both.{neither}
-use Rattle.edges.specs.Seldom.{AllIdle, AllCalm}
+use Rattle.running.specs.Down.{readAsks, writeAsks}
+use Rattle.edges.specs.Seldom.{AllIdle, AllCalm, Over}
 
 -- what holds of the banks below n holds of one more
 one-more : (P : ℕ → Type 0) (n : ℕ) → ((b : ℕ) → b < n → P b) → P n → (b : ℕ) → b < n + 1 → P b
@@ -63,3 +64,21 @@ module _ {actno shutat shutno pre : List ℕ} {e : ℕ} where
 
   pub calm-all : (n : ℕ) → CalmTo actno shutat shutno pre e n → 8 ≤ n → AllCalm actno shutat shutno pre e
   calm-all n h l = record { calm = λ b k. h .calm b (omega arith); ready = λ b k. h .ready b (omega arith) }
+
+-- k, l: what a RD and a WR with auto precharge ask by the registers in force
+pub record OverTo (k l mrs e : ℕ) (colat colno colpre shutno : List ℕ) (n : ℕ) : Type 0 where
+  pub seen : (b : ℕ) → b < n → Over k l mrs e colat colno colpre shutno b
+
+module _ {k l mrs e : ℕ} {colat colno colpre shutno : List ℕ} where
+  pub over-none : OverTo k l mrs e colat colno colpre shutno 0
+  over-none = record { seen = λ b l. absurd (omega arith) }
+
+  pub over-more : (n : ℕ) (x y : Bool) → x ≡ leb (readAsks k mrs (getD colno n 0)) (e - getD colat n 0)
+      → y ≡ leb (writeAsks l mrs (getD shutno n 0) (getD colno (n + 8) 0) (getD colpre (n + 8) 0)) (e - getD colat (n + 8) 0)
+      → OverTo k l mrs e colat colno colpre shutno n → not x || not y ≡ false → OverTo k l mrs e colat colno colpre shutno (n + 1)
+  over-more n x y p q h t =
+      let u = neither (not x) (not y) t in
+      record {
+        seen = one-more (Over k l mrs e colat colno colpre shutno) n (h .seen)
+            (record { read = leb-true _ _ (sym p ∙ not-false x (u .0)); wrote = leb-true _ _ (sym q ∙ not-false y (u .1)) });
+      }

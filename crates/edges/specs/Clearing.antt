@@ -1,12 +1,15 @@
 -- The edge before which no deadline passes.
 -- Assumes nothing.
-use Prim.Native.Nat.{ℕ, _+_, _≤_, _<_}
-use mathlib.Core.Bool.{Bool, true, false, cond}
+use Prim.Native.Nat.{ℕ, _+_, _≤_, _<_, min}
+use mathlib.Core.Bool.{Bool, true, cond, _||_}
 use mathlib.Core.List.{List}
 use mathlib.Core.Logic.{_⊎_}
 use mathlib.Core.Path.{_≡_}
 use lib.Dec.{ltb}
 use lib.ListN.{getD}
+use Rattle.records.specs.declared.Command.{Command}
+use Rattle.records.specs.declared.Command.the-variants.{Ref, Pre, Srx, Pde}
+use Rattle.records.specs.Command.{isA}
 use Rattle.edges.specs.declared.Debt.{Debt}
 
 -- of a bank: the edge and number of its ACT, the start and number of its precharge
@@ -30,13 +33,15 @@ Owing D x = (D .sleeps ≡ true) ⊎ (x ≤ D .due)
 abbrev pub Staying : (level sleeps : Bool) (at stay x : ℕ) → Type 0
 Staying l z at stay x = (l ≡ true) ⊎ ((z ≡ true) ⊎ (x ≤ at + stay + 1))
 
--- the edge r: worked out anew where it is asked for, else the one that was
-pub record Anew (yes : Bool) (most : ℕ) (actat actno shutat shutno : List ℕ) (edge : ℕ) (x : Debt) (level : Bool) (at stay clear r : ℕ) : Type 0 where
-  pub due : yes ≡ true → Clears most actat actno shutat shutno edge r
-  pub near : yes ≡ true → r ≤ edge + most + 1
-  pub owed : yes ≡ true → Owing x r
-  pub stays : yes ≡ true → Staying level (x .sleeps) at stay r
-  pub kept : yes ≡ false → r ≡ clear
+-- x, or the edge at which 9 would be owed if that is before
+abbrev pub owingBy : Debt → (x : ℕ) → ℕ
+owingBy D x = cond (D .sleeps) x (min x (D .due))
+
+-- The edge after a seldom command that came at the edge e; D is the debt behind it, at the latest change of CKE. Behind a REF, or a PRE of all
+-- banks, no bank is open; an SRX brings the debt's edge nearer; a power-down entry begins a stay
+unfoldable pub clearNext : (most stay : ℕ) → Command → (e at : ℕ) → Debt → (clear : ℕ) → ℕ
+clearNext m s c e at D x =
+    cond (isA Ref c || isA Pre c) (owingBy D (e + m + 1)) (cond (isA Srx c) (owingBy D x) (cond (isA Pde c) (min x (at + s + 1)) x))
 
 -- the banks below b have been seen, and x is not far
 pub record ClearTo (most : ℕ) (actat actno shutat shutno : List ℕ) (lo x b : ℕ) : Type 0 where

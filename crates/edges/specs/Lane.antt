@@ -1,24 +1,25 @@
 -- The lane: frequent commands, and seldom ones that may come, over what is kept in arrays. Where it stands between two records.
 -- Assumes nothing.
 use Prim.Native.Nat.{ℕ, _+_, _-_, _≤_, _<_}
-use mathlib.Core.Bool.{Bool, true, false, cond, not, _&&_, _||_}
+use mathlib.Core.Bool.{Bool, true, false, cond, not, _&&_}
 use mathlib.Core.List.{List}
 use mathlib.Core.Logic.{_⊎_}
 use mathlib.Core.Path.{_≡_}
-use lib.Dec.{ltb}
-use lib.ListN.{getD}
+use lib.Dec.{eqb, leb, ltb}
+use lib.ListN.{getD, length}
 use Rattle.laws.specs.Any.{anyOf}
 use Rattle.laws.specs.Eight.{table}
 use Rattle.codes.specs.Codes.{set}
 use Rattle.answers.specs.declared.Verdict.{Verdict}
 use Rattle.records.specs.declared.Record.{Record}
 use Rattle.records.specs.declared.Command.{Command}
-use Rattle.records.specs.declared.Command.the-variants.{Ref, Pre, Srx, Pde, Pdx}
-use Rattle.records.specs.Command.{isA}
+use Rattle.records.specs.declared.Command.the-variants.{Mrs, Pre, Pdx}
+use Rattle.records.specs.Record.{recordAt}
+use Rattle.records.specs.Command.{isA, commandOf}
 use Rattle.chip.specs.declared.Chip.{Chip}
 use Rattle.running.specs.declared.Asks.{Asks}
 use Rattle.running.specs.Easy.{Asked}
-use Rattle.running.specs.Ranges.{lastEdge}
+use Rattle.running.specs.Ranges.{Small, limit, lastEdge, farEdge}
 use Rattle.edges.specs.declared.Device.{Device}
 use Rattle.edges.specs.declared.Debt.{Debt}
 use Rattle.edges.specs.declared.Floor.{Floor}
@@ -26,9 +27,10 @@ use Rattle.edges.specs.declared.Rank.{Rank}
 use Rattle.edges.specs.Views.{regsOf, CKE}
 use Rattle.edges.specs.Next.{counting, debtNext, deviceNext}
 use Rattle.edges.specs.Says.{duesOf}
-use Rattle.edges.specs.Clearing.{Staying, Anew}
+use Rattle.edges.specs.Clearing.{Staying, clearNext}
 use Rattle.edges.specs.Floors.{noFloor}
 use Rattle.edges.specs.Ways.{floorNext, holdsNext}
+use Rattle.edges.specs.Seldom.{MayCome}
 use Rattle.edges.specs.Ranges.{farthest}
 use Rattle.edges.specs.Running.{Track, Rest, rankOf, Standing, Along}
 
@@ -115,10 +117,45 @@ pub record Leaves
   pub floor : f′ ≡ floorNext C c r slow e f
   pub turns : turned ≡ getD (D′ .at) CKE 0
 
--- and the edge before which no deadline passes, which a REF, a PRE, an SRX and a power-down entry move
+-- and the edge before which no deadline passes
 pub record Passes
-    (C : Chip) (c : Command) (r : Record) (e n : ℕ) (actat actno shutat shutno holds : List ℕ) (D : Device) (x : Debt) (f : Floor) (clear : ℕ)
+    (C : Chip) (c : Command) (r : Record) (e n : ℕ) (actno shutat shutno holds : List ℕ) (D : Device) (x : Debt) (f : Floor) (clear : ℕ)
     (shutat′ shutno′ holds′ : List ℕ) (D′ : Device) (x′ : Debt) (f′ : Floor) (clear′ : ℕ) : Type 0 where
   pub turned : ℕ
   pub left : Leaves C c r e n actno shutat shutno holds D x f shutat′ shutno′ holds′ D′ x′ f′ turned
-  pub anew : Anew ((isA Ref c || isA Pre c) || (isA Srx c || isA Pde c)) (C .most) actat actno shutat′ shutno′ e x′ (r .cke) turned (C .stay) clear clear′
+  pub clears : clear′ ≡ clearNext (C .most) (C .stay) c e turned x′ clear
+
+-- the next record can be looked at: no sum wraps, no index runs out
+pub record Ahead (C : Chip) (bytes : List ℕ) (at : ℕ) (x : Debt) (devat : List ℕ) (e n : ℕ) : Type 0 where
+  pub within : at + 6 ≤ length bytes
+  pub small : Small C
+  pub edge : e + recordAt bytes at .step ≤ lastEdge
+  pub count : n + 1 ≤ limit
+  pub debt : x .due ≤ farEdge
+  pub turned : getD devat CKE 0 ≤ lastEdge
+
+-- the next record is a seldom command that may come before the edge clear, and what it leaves behind; real: no bank has an ACT of a record to come; mode: it is an MRS
+pub record Came
+    (C : Chip) (bytes : List ℕ) (at : ℕ) (l : Bool) (x : Debt) (h : List ℕ) (D : Device) (e n : ℕ)
+    (actno colat colno colpre shutat shutno pre : List ℕ) (f : Floor) (clear : ℕ) (real : Bool)
+    (l′ mode : Bool) (e′ : ℕ) (x′ : Debt) (f′ : Floor) (clear′ : ℕ) (shutat′ shutno′ h′ : List ℕ) (D′ : Device) : Type 0 where
+  pub next : Record
+  pub is : next ≡ recordAt bytes at
+  pub command : Command
+  pub names : command ≡ commandOf l (x .sleeps) next
+  pub some : eqb (next .step) 0 ≡ false
+  pub before : leb clear (e + next .step) ≡ false
+  pub may :
+      MayCome (C .header) (C .tmod) command next (e + next .step) f actno colat colno colpre shutat shutno pre h (D .at) (D .no) (D .need) (D .codes)
+  pub passes : Passes C command next (e + next .step) (n + 1) actno shutat shutno h D x f clear shutat′ shutno′ h′ D′ x′ f′ clear′
+  pub acts : isA Pre command ≡ true → real ≡ true
+  pub edge : e′ ≡ e + next .step
+  pub level : l′ ≡ next .cke
+  pub sets : mode ≡ isA Mrs command
+
+-- it does not come, and all is as it was
+pub record Unmoved (h : List ℕ) (D : Device) (shutat shutno shutat′ shutno′ h′ : List ℕ) (D′ : Device) : Type 0 where
+  pub starts : shutat′ ≡ shutat
+  pub closers : shutno′ ≡ shutno
+  pub held : h′ ≡ h
+  pub device : D′ ≡ D

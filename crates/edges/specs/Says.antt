@@ -1,6 +1,6 @@
 -- What is said of a record: the gap before it, its edge, and rules 1 to 30.
 -- Assumes nothing.
-use Prim.Native.Nat.{ℕ, _+_, _-_}
+use Prim.Native.Nat.{ℕ, _+_}
 use mathlib.Core.Bool.{Bool, cond, not, _&&_}
 use mathlib.Core.List.{List}
 use lib.Dec.{leb, ltb}
@@ -27,8 +27,7 @@ use Rattle.edges.specs.declared.Debt.{Debt}
 use Rattle.edges.specs.declared.Device.{Device}
 use Rattle.edges.specs.declared.Rank.{Rank}
 use Rattle.edges.specs.Views.{keptOf, keptsOf, sharedOf, writtenOf, REF, CKE}
-use Rattle.edges.specs.declared.Waits.{Waits}
-use Rattle.edges.specs.Asks.{waitFor, greatest}
+use Rattle.edges.specs.Asks.{waitFor}
 
 -- ── Deadlines ───────────────────────────────────────────────────────────────────────────────
 
@@ -78,16 +77,10 @@ brokenIn C s r e =
 abbrev pub owing : Command → (e : ℕ) → Late → Break
 owing c e x = cond (leb (x .at) e && not (isA Ref c)) (why x) Fine
 
--- no RD, WR or MRS asks an entry to wait any more where every PRE has waited, and an SRE has for three edges: a RD asks at most three clocks
--- more of an entry than of an SRE, a WR what it asks of a PRE, with auto precharge less than the start asks of an SRE
-abbrev pub entryOver : Waits → (e : ℕ) → Bool
-entryOver W e = leb (greatest (W .pre) 8) e && leb 3 (e - getD (W .holds) 3 0)
-
 -- rules 26 and 27; and 29 and 30, of which the marks are asked only where the waiting time is not over
 unfoldable pub changedIn : Chip → Rank → Record → (e : ℕ) → Break
 changedIn C s r e =
-    orElse (cond (entryOver (s .waits) e) Fine (rule26 C (commandIn s r) (keptsOf C (s .banks)) (sharedIn C s) e))
-    (rule27 (turns (s .level) r) e (sharedIn C s))
+    orElse (rule26 C (commandIn s r) (keptsOf C (s .banks)) (sharedIn C s) e) (rule27 (turns (s .level) r) e (sharedIn C s))
 
 unfoldable pub leftIn : Chip → Rank → Record → (e : ℕ) → Break
 leftIn C s r e = cond (leb (waitFor (s .waits) (commandIn s r) r) e) Fine (exitRules (commandIn s r) e (sharedIn C s))

@@ -126,8 +126,11 @@ restsOf D =
       slow = deviceMark D SLOW;
     }
 
+abbrev pub regsBy : (codes : List ℕ) → Regs
+regsBy g = record { mr0 = getD g 0 0; mr1 = getD g 1 0; mr2 = getD g 2 0; mr3 = getD g 3 0 }
+
 abbrev pub regsOf : Device → Regs
-regsOf D = record { mr0 = getD (D .codes) 0 0; mr1 = getD (D .codes) 1 0; mr2 = getD (D .codes) 2 0; mr3 = getD (D .codes) 3 0 }
+regsOf D = regsBy (D .codes)
 
 abbrev pub writtenOf : Device → Written
 writtenOf D =

@@ -16,7 +16,7 @@ use Rattle.chip.specs.declared.Chip.{Chip}
 use Rattle.rules.specs.Past.{Past, edge, number, _∈_, here, there}
 use Rattle.rules.specs.Rules.{Row, r4, r6, r7, r9, r10, r11, r12r, r12w, r13, r14, r15, r16, r17, r18, r19, r20, r21, r22, r26, r27, r29, r30, spacing, spaced}
 use Rattle.rules.specs.Deadlines.{rule24, rule25, rule28}
-use Rattle.rules.specs.Verdict.{Outcome, clean, stop, keep, told, Check, ofRecord, deadline, recordSays, checkSays, firstOf, ofRecords, edgeChecks, brokenAt}
+use Rattle.rules.specs.Verdict.{Outcome, clean, stop, keep, told, Check, ofRecord, deadline, recordSays, checkSays, firstOf, edgeChecks, brokenAt}
 use Rattle.rules.proofs.Generic.{decide, broken-fine}
 use Rattle.rules.proofs.Numbered.{stop-clean, keep-clean}
 use Rattle.means.specs.Means.{How, record-did, limit-passed, debt-grew, stay-passed}

@@ -1,11 +1,13 @@
 // The edge before which no deadline passes.
 use crate::numbers::least_of;
 use edges::Debt;
+use records::Command;
+use records::rank_of;
 ghost use mathlib.Core.Path.{_≡_};
 ghost use Prim.Native.Nat.{ℕ, _+_, _≤_, _<_};
 ghost use lib.ListN.{getD};
 ghost use Rattle.running.specs.Ranges.{lastEdge};
-ghost use Rattle.edges.specs.Clearing.{dueBy, Off, Clears, Owing, Staying, Anew};
+ghost use Rattle.edges.specs.Clearing.{dueBy, Off, Clears, Owing, Staying, owingBy, clearNext};
 
 // x, or the edge at which the bank comes due if that is after edge and before x.
 fn next_due(a: u64, most: u32, actno: u32, shutno: u32, shutat: u64, edge: u64, x: u64) -> u64
@@ -37,8 +39,7 @@ fn stay_of(level: bool, sleeps: bool, at: u64, stay: u32, x: u64) -> u64
 
 // x, or the edge at which 9 would be owed if that is before.
 fn owing_of(d: Debt, x: u64) -> u64
-    ensures { λ r. ⌜ Owing d r ⌝ }
-    ensures { λ r. ⌜ r ≤ x ⌝ }
+    ensures { λ r. ⌜ r ≡ owingBy d x ⌝ }
 {
     if d.sleeps {
         return x;
@@ -76,28 +77,30 @@ pub(crate) fn clear_of(
     owing_of(d, stay_of(level, d.sleeps, at, stay, x))
 }
 
-// clear, or worked out anew.
-pub(crate) fn clear_anew(
-    yes: bool,
-    actat: &[u64; 8],
-    actno: &[u32; 8],
-    shutat: &[u64; 8],
-    shutno: &[u32; 8],
+// After a seldom command that came at the edge e; d: the debt behind it; at: the latest change of CKE. Behind a REF or a PRE of all banks no
+// bank is open.
+pub(crate) fn clear_next(
+    c: Command,
     most: u32,
-    edge: u64,
-    d: Debt,
-    level: bool,
-    at: u64,
     stay: u32,
+    e: u64,
+    at: u64,
+    d: Debt,
     clear: u64,
 ) -> u64
-    requires { ⌜ edge ≤ lastEdge ⌝ }
+    requires { ⌜ e ≤ lastEdge ⌝ }
     requires { ⌜ at ≤ lastEdge ⌝ }
-    requires { ⌜ ((b : ℕ) → b < 8 → getD (now actat) b 0 ≤ lastEdge) ⌝ }
-    ensures { λ r. ⌜ Anew yes most (now (actat .entry)) (now (actno .entry)) (now (shutat .entry)) (now (shutno .entry)) edge d level at stay clear r ⌝ }
+    ensures { λ r. ⌜ r ≡ clearNext most stay c e at d clear ⌝ }
 {
-    if yes {
-        return clear_of(actat, actno, shutat, shutno, most, edge, d, level, at, stay);
+    let k = rank_of(c);
+    if (k == 1) | (k == 2) {
+        return owing_of(d, e + most as u64 + 1);
+    }
+    if k == 10 {
+        return owing_of(d, clear);
+    }
+    if k == 13 {
+        return least_of(clear, at + stay as u64 + 1);
     }
     clear
 }

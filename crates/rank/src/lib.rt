@@ -9,6 +9,7 @@ mod closing;
 mod coming;
 mod counting;
 mod device;
+mod entering;
 mod fold;
 mod latest;
 mod moved;

@@ -21,7 +21,6 @@ use kept::or_else;
 use kept::rule3;
 use kept::rule26;
 use kept::rule27;
-use kept::since;
 use kept::spacings;
 use kept::speaks_of_all;
 use records::Command;
@@ -218,19 +217,10 @@ fn broken_in(chip: Chip, s: Rank, c: Command, r: Record, e: u64) -> Break
 
 // ── Rules 26, 27, 29 and 30 ─────────────────────────────────────────────────────────────────
 
-// Every PRE has waited, and an SRE has for three edges.
-fn entry_over(w: Waits, e: u64) -> bool
-    ensures { λ x. ⌜ x ≡ says.entryOver w e ⌝ }
-{
-    let pre = w.pre;
-    let holds = w.holds;
-    (greatest(pre) <= e) & (3 <= since(e, holds[3]))
-}
-
 fn entered(chip: Chip, s: Rank, c: Command, shared: Shared, e: u64) -> Break
-    ensures { λ x. ⌜ x ≡ cond (says.entryOver (s .waits) e) Fine (down.rule26 chip c (keptsOf chip (s .banks)) shared e) ⌝ }
+    ensures { λ x. ⌜ x ≡ down.rule26 chip c (keptsOf chip (s .banks)) shared e ⌝ }
 {
-    if entry_over(s.waits, e) {
+    if rank_of(c) != 13 {
         return Break::Fine;
     }
     rule26(chip, c, kepts(chip, s.banks), shared, e)

@@ -9,8 +9,8 @@ ghost use mathlib.Core.Bool.{true};
 ghost use Rattle.records.specs.Command.{a10, bankIn};
 ghost use Rattle.registers.specs.Allowed.{allowed};
 ghost use mathlib.Core.Path.{_≡_};
-ghost use Prim.Native.Nat.{ℕ, _-_, _≤_, _<_};
-ghost use lib.ListN.{set, getD};
+ghost use Prim.Native.Nat.{_-_, _≤_, _<_};
+ghost use lib.ListN.{set};
 ghost use Rattle.edges.specs.Seldom as seldom;
 ghost use Rattle.edges.specs.Ways as ways;
 
@@ -174,28 +174,4 @@ pub(crate) fn may_wake(need: u32, at: u64, e: u64) -> bool
     ensures { λ x. ⌜ (x ≡ true → need ≤ e - at) ⌝ }
 {
     need as u64 <= since(e, at)
-}
-
-// Has each bank waited for a PRE?
-fn ready(pre: &[u64; 8], e: u64) -> bool
-    ensures { λ r. ⌜ (r ≡ true → (b : ℕ) → b < 8 → getD (now (pre .entry)) b 0 ≤ e) ⌝ }
-{
-    let mut b: usize = 0;
-    while b < 8 {
-        if e < pre[b] {
-            return false;
-        }
-        b += 1;
-    }
-    true
-}
-
-// A power-down entry: every PRE has waited, and an SRE has for three edges.
-pub(crate) fn may_enter(pre: &[u64; 8], holds: &[u64; 4], f: Floor, e: u64) -> bool
-    ensures { λ x. ⌜ (x ≡ true → seldom.Entered e f (now (pre .entry)) (now (holds .entry))) ⌝ }
-{
-    if (e < f.pre) | ((since(e, holds[3]) < 3) | ((since(e, f.idle) < 3) | (since(e, f.out) < 3))) {
-        return false;
-    }
-    ready(pre, e)
 }

@@ -1,18 +1,15 @@
 // The lane: frequent commands, and seldom ones that may come, one after the other.
-use crate::asking::may;
 use crate::clearing::clear_of;
 use crate::clocks::asks_anew;
 use crate::clocks::asks_of;
 use crate::clocks::regs_of;
 use crate::numbers::if_so;
-use crate::passing::pass;
+use crate::passing::pass_next;
 use crate::quick::quick;
 use crate::quick::record_at;
 use chip::Chip;
 use edges::Debt;
 use edges::Floor;
-use records::command_of;
-use records::rank_of;
 ghost use mathlib.Core.Path.{_≡_};
 ghost use mathlib.Core.Bool.{true};
 ghost use Prim.Native.Nat.{ℕ, _≤_, _<_};
@@ -174,26 +171,32 @@ pub(crate) fn smoothly(
                 floor: f,
             };
         }
-        let r = record_at(bytes, at);
-        let e1 = e + r.step;
-        let c = command_of(level, d.sleeps, r);
-        if ((r.step == 0) | (clear <= e1))
-            | !may(
-                actno,
-                shutat,
-                shutno,
-                pre,
-                holds,
-                devat,
-                devno,
-                devneed,
-                f,
-                chip.header,
-                c,
-                r,
-                e1,
-            )
-        {
+        let next = pass_next(
+            actno,
+            colat,
+            colno,
+            colpre,
+            shutat,
+            shutno,
+            pre,
+            holds,
+            devat,
+            devno,
+            devneed,
+            codes,
+            written,
+            chip,
+            d,
+            f,
+            level,
+            e,
+            no,
+            clear,
+            real,
+            bytes,
+            at,
+        );
+        if !next.comes {
             return Lane {
                 edge: e,
                 count: no,
@@ -205,35 +208,13 @@ pub(crate) fn smoothly(
             };
         }
         at += 6;
-        e = e1;
         no = no + 1;
-        let k = rank_of(c);
-        let left = pass(
-            actat,
-            actno,
-            shutat,
-            shutno,
-            holds,
-            devat,
-            devno,
-            devneed,
-            codes,
-            written,
-            chip,
-            d,
-            f,
-            c,
-            r,
-            e,
-            no,
-            clear,
-        );
-        d = left.debt;
-        f = left.floor;
-        clear = left.clear;
-        level = r.cke;
-        // An MRS.
-        stale = stale | (k == 0);
+        e = next.edge;
+        d = next.debt;
+        f = next.floor;
+        clear = next.clear;
+        level = next.level;
+        stale = stale | next.sets;
     }
     Lane {
         edge: e,

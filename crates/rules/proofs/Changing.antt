@@ -10,7 +10,6 @@ use lib.ListN.{getD}
 use Rattle.laws.specs.Any.{anyOf}
 use Rattle.laws.specs.Eight.{table}
 use Rattle.laws.proofs.Eight.{getD-table}
-use Rattle.answers.specs.declared.Break.{Break}
 use Rattle.answers.specs.declared.Break.the-variants.{Fine}
 use Rattle.answers.specs.Answer.{orElse}
 use Rattle.records.specs.declared.Record.{Record}
@@ -22,13 +21,12 @@ use Rattle.running.specs.Marks.{empty, needing}
 use Rattle.running.specs.Marks as marks
 use Rattle.running.specs.Down as running
 use Rattle.running.specs.Down.{laterOf, latestOf, entryRead, entryWrite}
-use Rattle.rules.specs.Past.{Past, edge, changes, command, is, bankOf, on, a10Of, latest}
+use Rattle.rules.specs.Past.{Past, edge, changes, command, is, bankOf, latest}
 use Rattle.rules.specs.Registers.{regs}
 use Rattle.rules.specs.Down.{turned, slowExit}
 use Rattle.rules.specs.Search.{lookBack, asking, row}
 use Rattle.rules.specs.Rules.{r26, r27, r29, r30, toEntry, spacing, exitChecks, breakAt}
 use Rattle.rules.proofs.Generic.{Dominated, edge-reached, latest-only, constant-dominated}
-use Rattle.rules.proofs.Events.{never}
 use Rattle.rules.proofs.Clean.{Clean, is-other}
 use Rattle.rules.proofs.Facts.{Sound}
 use Rattle.rules.proofs.Dominate.{bank-small}

@@ -2,23 +2,17 @@
 -- Assumes nothing.
 use Prim.Native.Nat.{ℕ, zero, suc, _+_, _-_, _≤_, _<_}
 use native.Mathlib.Omega.{arith}
-use native.Mathlib.Decide.{ℕ-discrete}
-use mathlib.Core.Path.{_≡_, refl, sym, ap, _∙_, subst, fun-ext}
-use mathlib.Core.Logic.{_⊎_, inl, inr, ⊎-elim}
-use mathlib.Core.Bool.{Bool, true, false, cond, _&&_, _||_}
-use mathlib.Core.List.{[], _∷_, tail}
-use lib.Dec.{eqb, ltb}
-use borrow.Author.Tests.{ltb-true, ltb-false, le-ltb, lt-ltb, eqb-true, eqb-false, eq-eqb}
+use mathlib.Core.Path.{_≡_, refl, sym, ap, _∙_, fun-ext}
+use mathlib.Core.Bool.{Bool, true, false, cond, _||_}
+use mathlib.Core.List.{[], _∷_}
+use lib.Dec.{ltb}
+use borrow.Author.Tests.{le-ltb, lt-ltb}
 use Rattle.laws.specs.Any.{anyOf}
-use Rattle.laws.proofs.Both.{both}
 use Rattle.answers.specs.declared.Break.{Break}
 use Rattle.answers.specs.declared.Break.the-variants.{Fine, Broken}
-use Rattle.records.specs.declared.Record.{Record}
 use Rattle.running.specs.Down.{laterOf, latestOf}
-use Rattle.rules.specs.Past.{Past, edge, number, _∈_, here, there, latest}
+use Rattle.rules.specs.Past.{Past, number}
 use Rattle.rules.specs.Search.{short, lookBack, asking}
-use Rattle.rules.proofs.Generic.{decide}
-use Rattle.rules.proofs.Events.{never}
 
 -- ── Either of two kinds ─────────────────────────────────────────────────────────────────────
 

@@ -4,13 +4,12 @@ use Prim.Native.Nat.{ℕ, _+_, _-_, _≤_, _<_}
 use native.Mathlib.Omega.{arith}
 use native.Mathlib.Decide.{ℕ-discrete}
 use mathlib.Core.Path.{_≡_, refl, sym, ap, _∙_}
-use mathlib.Core.Logic.{_⊎_, inl, inr, ⊎-elim}
-use mathlib.Core.Bool.{Bool, true, false, cond, _&&_, _||_}
+use mathlib.Core.Logic.{⊎-elim}
+use mathlib.Core.Bool.{Bool, true, false, cond}
 use mathlib.Core.List.{[], _∷_, tail}
 use lib.Dec.{eqb, ltb}
-use borrow.Author.Tests.{ltb-true, ltb-false, le-ltb, lt-ltb, eqb-true, eq-eqb, ne-eqb}
+use borrow.Author.Tests.{ltb-true, ltb-false, le-ltb, lt-ltb, eq-eqb, ne-eqb}
 use Rattle.laws.proofs.Both.{both}
-use Rattle.answers.specs.declared.Break.{Break}
 use Rattle.answers.specs.declared.Break.the-variants.{Fine, Broken}
 use Rattle.records.specs.declared.Record.{Record}
 use Rattle.records.specs.declared.Command.the-variants.{Mrs, Wr, Rd}
@@ -19,8 +18,8 @@ use Rattle.chip.specs.Latencies.{alOf, clOf, cwlOf, wrOf, hOf}
 use Rattle.running.specs.declared.Mark.{Mark}
 use Rattle.running.specs.Down.{laterOf, entryRead, entryWrite}
 use Rattle.rules.specs.Past.{Past, edge, number, is, on, a10Of, _∈_, here, there, latest}
-use Rattle.rules.specs.Registers.{regs, rl, b}
-use Rattle.rules.specs.Banks.{closes, touches, isIdle, start, seen, status}
+use Rattle.rules.specs.Registers.{regs, rl}
+use Rattle.rules.specs.Banks.{closes, touches, isIdle, start, seen}
 use Rattle.rules.proofs.Generic.{decide, edge-le}
 use Rattle.rules.proofs.Events.{never, number-le, some, event-some, latest-is, unchanged-or}
 use Rattle.rules.proofs.Clean.{Clean, is-other, clean-tail, clean-in}
@@ -28,7 +27,7 @@ use Rattle.rules.proofs.Starts.{closes-touches, start-wr, reach, reach-
 use Rattle.rules.proofs.Facts.{Sound}
 use Rattle.rules.proofs.Fits.{idle-closed, allowed-as}
 use Rattle.rules.proofs.Dominate.{need11, regs-same}
-use Rattle.rules.proofs.Summary.{mark, mark-at, wrOn, startMark, readOf, kept}
+use Rattle.rules.proofs.Summary.{mark, mark-at, wrOn, readOf, kept}
 use Rattle.rules.proofs.Status.{latest-number, mark-num, start-mark-num}
 use Rattle.rules.proofs.Words.{check}
 use Rattle.rules.proofs.Either.{Before, later-second}

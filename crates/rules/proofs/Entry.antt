@@ -1,32 +1,30 @@
 -- Rule 26: of the RDs the latest counts, of the WRs the latest of each bank, of the MRSs the latest; an older WR with auto precharge can break it
 -- where a later one on another bank does not. And what is kept of them tells it.
 -- Assumes nothing.
-use Prim.Native.Nat.{ℕ, _+_, _-_, _≤_, _<_}
+use Prim.Native.Nat.{ℕ, _+_, _≤_, _<_}
 use native.Mathlib.Omega.{arith}
-use mathlib.Core.Path.{_≡_, refl, sym, ap, _∙_}
-use mathlib.Core.Logic.{_⊎_, inl, inr, ⊎-elim}
-use mathlib.Core.Bool.{Bool, true, false, cond, _&&_, _||_}
+use mathlib.Core.Path.{_≡_, refl, ap}
+use mathlib.Core.Logic.{⊎-elim}
+use mathlib.Core.Bool.{true, false, cond}
 use mathlib.Core.List.{[], _∷_, tail}
-use lib.Dec.{eqb, ltb}
-use borrow.Author.Tests.{ltb-true, ltb-false, le-ltb, eqb-true, eqb-false, eq-eqb, ne-eqb}
 use Rattle.laws.specs.Among.{first, next}
 use Rattle.laws.proofs.Both.{both}
 use Rattle.records.specs.declared.Record.{Record}
 use Rattle.records.specs.declared.Command.the-variants.{Mrs, Pre, Wr, Rd}
 use Rattle.chip.specs.declared.Chip.{Chip}
-use Rattle.chip.specs.Latencies.{alOf, clOf, cwlOf, wrOf, hOf}
-use Rattle.rules.specs.Past.{Past, edge, number, is, bankOf, on, column, a10Of, addressOf, _∈_, here, there, latest}
-use Rattle.rules.specs.Registers.{regs, al, cl, cwl, wl, rl, h, b, wr}
-use Rattle.rules.specs.Banks.{closes, touches, isOpen, isIdle, start, status}
+use Rattle.chip.specs.Latencies.{alOf, clOf}
+use Rattle.rules.specs.Past.{Past, edge, is, on, column, a10Of, addressOf, _∈_, latest}
+use Rattle.rules.specs.Registers.{regs, wl, rl, h, b, wr}
+use Rattle.rules.specs.Banks.{closes, touches, start}
 use Rattle.rules.specs.Rules.{spacing, r19}
 use Rattle.rules.proofs.Generic.{decide, edge-le, Dominated}
-use Rattle.rules.proofs.Events.{never, ∈-trans, number-le, latest-edge, unchanged-or}
+use Rattle.rules.proofs.Events.{never, ∈-trans, latest-edge, unchanged-or}
 use Rattle.rules.proofs.Clean.{Clean, is-other, clean-tail, clean-in, clean-spaced}
 use Rattle.rules.proofs.Starts.{closes-touches, start-wr, reach, reach-closes, reach-step, reach-le}
 use Rattle.rules.proofs.Facts.{Sound, Fit}
-use Rattle.rules.proofs.Fits.{idle-closed, active-open, allowed-as, column-active, fit-in}
-use Rattle.rules.proofs.Dominate.{need11, need19, regs-same, dominated11, bank-small, and-true}
-use Rattle.rules.proofs.Summary.{rdOn, wrOn}
+use Rattle.rules.proofs.Fits.{active-open, allowed-as, fit-in}
+use Rattle.rules.proofs.Dominate.{need11, regs-same, dominated11}
+use Rattle.rules.proofs.Summary.{wrOn}
 
 -- what a WR asks of an entry, and a RD
 module _ (C : Chip) where

@@ -7,7 +7,7 @@ use native.Mathlib.Decide.{ℕ-discrete}
 use mathlib.Core.Path.{_≡_, refl, sym, ap, _∙_, subst}
 use mathlib.Core.Logic.{⊎-elim}
 use mathlib.Core.Bool.{Bool, true, false, cond, not, _&&_, _||_, true≢false}
-use lib.Dec.{eqb, ltb, leb}
+use lib.Dec.{ltb, leb}
 use borrow.Author.Tests.{ltb-true, ltb-false, leb-true, leb-false, le-leb, lt-leb, eq-eqb, ne-eqb}
 use Rattle.laws.specs.Eight.{table}
 use Rattle.laws.proofs.Eight.{getD-table}
@@ -19,7 +19,7 @@ use Rattle.running.specs.Marks.{empty}
 use Rattle.running.specs.declared.Late.{Late}
 use Rattle.running.specs.declared.Pick.{Pick}
 use Rattle.running.specs.Next.{due}
-use Rattle.running.specs.Late.{better, soonest, why, sooner, lateBy, stayUntil}
+use Rattle.running.specs.Late.{better, soonest, why, sooner, lateBy}
 use Rattle.running.specs.Deadlines.{next24, next25, next28, owing}
 use Rattle.rules.specs.Past.{Past, edge, number, cke, asleep, is, latest, upTo}
 use Rattle.answers.specs.Answer.{orElse, lowest}

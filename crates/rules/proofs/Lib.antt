@@ -19,7 +19,6 @@ pub mod Entering
 pub mod Waiting
 pub mod Allowing
 pub mod InTheWay
-pub mod Entered
 pub mod Agree
 pub mod Changing
 pub mod Numbered

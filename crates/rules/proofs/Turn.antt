@@ -2,7 +2,7 @@
 -- Assumes nothing.
 use Prim.Native.Nat.{ℕ, _≤_}
 use native.Mathlib.Omega.{arith}
-use mathlib.Core.Path.{_≡_, refl, ap, _∙_}
+use mathlib.Core.Path.{_≡_, refl, _∙_}
 use mathlib.Core.Bool.{Bool, true, false, cond}
 use lib.Dec.{ltb, leb}
 use borrow.Author.Tests.{leb-false}
@@ -12,7 +12,6 @@ use Rattle.answers.specs.declared.Verdict.{Verdict}
 use Rattle.running.specs.declared.Late.{Late}
 use Rattle.running.specs.Late.{why, sooner}
 use Rattle.running.specs.Said.{noVerdict, first, verdictAt}
-use Rattle.rules.specs.Past.{edge, number, is}
 use Rattle.rules.specs.Verdict.{Outcome, clean, stop, keep, told, shown}
 use Rattle.rules.proofs.Numbered.{inOrder}
 

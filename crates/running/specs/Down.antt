@@ -34,22 +34,30 @@ unfoldable pub latestOf : (ℕ → Break) → ℕ → Break
 latestOf f zero = Fine
 latestOf f (suc n) = laterOf (latestOf f n) (f n)
 
--- The latest RD, by the registers g in force now. They are its own where no MRS came since; where one came it had waited for the RD's
--- clocks, so that it breaks the rule itself, or neither does
-abbrev pub entryRead : Regs → (mrs : Mark) → Read → Mark
-entryRead g m s = record { at = s .at; num = s .num; need = cond (ltb (m .num) (s .num)) (alOf g + clOf g + 5) 0 }
+-- what a RD, and a WR with auto precharge, ask of an entry by the registers g
+abbrev pub ofRead : Regs → ℕ
+ofRead g = alOf g + clOf g + 5
 
--- The latest WR of a bank. It has auto precharge where it is the record that closed the bank; where another closed it later the bank had
--- been precharged by then, and so it was where an MRS came since
+abbrev pub ofAuto : Regs → ℕ
+ofAuto g = alOf g + cwlOf g + hOf g + wrOf g + 1
+
+-- what a RD asks whose number is n, and k by the registers in force now. They are its own where no MRS came since; where one came it had
+-- waited for the RD's clocks, so that it breaks the rule itself, or neither does
+abbrev pub readAsks : (k mrs n : ℕ) → ℕ
+readAsks k m n = cond (ltb m n) k 0
+
+-- The same of a WR, of which `shut` closed its bank. It has auto precharge where it is that record itself; where another closed the bank later
+-- it had been precharged by then, and so it was where an MRS came since
+abbrev pub writeAsks : (k mrs shut n plain : ℕ) → ℕ
+writeAsks k m s n plain = cond (eqb s n) (readAsks k m n) plain
+
+-- the latest RD, and the latest WR of a bank
+abbrev pub entryRead : Regs → (mrs : Mark) → Read → Mark
+entryRead g m s = record { at = s .at; num = s .num; need = readAsks (ofRead g) (m .num) (s .num) }
+
 abbrev pub entryWrite : Regs → (mrs : Mark) → Kept → Mark
 entryWrite g m k =
-    record {
-      at = k .wrote .at;
-      num = k .wrote .num;
-      need =
-          cond (eqb (k .shut .num) (k .wrote .num))
-          (cond (ltb (m .num) (k .wrote .num)) (alOf g + cwlOf g + hOf g + wrOf g + 1) 0) (k .wrote .need);
-    }
+    record { at = k .wrote .at; num = k .wrote .num; need = writeAsks (ofAuto g) (m .num) (k .shut .num) (k .wrote .num) (k .wrote .need) }
 
 abbrev pub check26 : (e : ℕ) → Mark → Break
 check26 e m = spaced 26 e m Fine

@@ -13,7 +13,6 @@ use Rattle.chip.specs.declared.Regs.{Regs}
 use Rattle.chip.specs.Latencies.{alOf, cwlOf, wrOf, hOf}
 use Rattle.running.specs.declared.Mark.{Mark}
 use Rattle.running.specs.declared.Kept.{Kept}
-use Rattle.running.specs.Marks.{none}
 
 abbrev pub mark : (e n need : ℕ) → Mark
 mark e n need = record { at = e; num = n; need = need }

@@ -112,9 +112,6 @@ enum-told-13 c = search needs
 enum-told-14 : tie.Need-enum-told-14
 enum-told-14 c = search needs
 
-may-enter-requires : tie.Need-may-enter-requires
-may-enter-requires c κs = search needs
-
 element-copy-out-may-wake-7 : tie.Need-element-copy-out-may-wake-7
 element-copy-out-may-wake-7 c = search needs
 
@@ -123,6 +120,9 @@ element-copy-out-may-wake-8 c = search needs
 
 may-wake-requires-4 : tie.Need-may-wake-requires-4
 may-wake-requires-4 c κs = search needs
+
+may-enter-requires : tie.Need-may-enter-requires
+may-enter-requires c κs = search needs
 
 enum-told-15 : tie.Need-enum-told-15
 enum-told-15 c = search needs
@@ -176,7 +176,7 @@ returns-13 : tie.Need-returns-13
 returns-13 c = λ h. absurd (false≢true h)
 
 returns-14 : tie.Need-returns-14
-returns-14 c = λ h. rw (c .before .before .before .before .enum-told14 .given .1) (let u = both _ _ h in (c .before .before .before .may-enter .ensures (u .0), c .may-wake4 .ensures (u .1)))
+returns-14 c = λ h. rw (c .before .before .before .before .enum-told14 .given .1) (let u = both _ _ h in (c .may-enter .ensures (u .1), c .before .may-wake4 .ensures (u .0)))
 
 returns-15 : tie.Need-returns-15
 returns-15 c = λ h. rw (c .before .before .before .enum-told15 .given .1) (c .may-wake5 .ensures h)
@@ -220,10 +220,10 @@ may-spec =
     enum-told-12
     enum-told-13
     enum-told-14
-    may-enter-requires
     element-copy-out-may-wake-7
     element-copy-out-may-wake-8
     may-wake-requires-4
+    may-enter-requires
     enum-told-15
     element-copy-out-may-wake-9
     element-copy-out-may-wake-10

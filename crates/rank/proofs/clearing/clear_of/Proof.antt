@@ -6,7 +6,7 @@ use mathlib.Core.Bool.{Bool}
 use mathlib.Core.Logic.{inl, inr}
 use borrow.Author.Needs.{needs}
 use Rattle.edges.specs.Clearing.{ClearTo, Staying}
-use Rattle.edges.proofs.Clearing.{clear-start, clear-next, clear-end}
+use Rattle.edges.proofs.Clearing.{clear-start, clear-next, clear-end, owing-by, owing-below}
 use Rattle.rank.proofs.clearing.clear_of.Statement.{statement}
 use Rattle.rank.proofs.clearing.clear_of.Tie as tie
 
@@ -75,10 +75,11 @@ owing-of-requires c κs = search needs
 returns : tie.Need-returns Inv-loop μ-loop
 returns c =
     let h = c .before .before .before .loop .inv in
-    let o = c .owing-of .ensures in
-    let s = c .before .stay-of .ensures in (
-      clear-end _ _ _ _ _ _ _ _ h _ (omega (arith, c .before .before .loop-test .left)) (omega (arith, o .1, s .1)),
-      (omega (arith, h .near, o .1, s .1), (o .0, sooner-too _ _ _ _ _ _ (s .0) (o .1))),
+    let s = c .before .stay-of .ensures in
+    let below = owing-below (c .before .before .before .before .args .d) (c .before .stay-of .result) in
+    rw (c .owing-of .ensures) (
+      clear-end _ _ _ _ _ _ _ _ h _ (omega (arith, c .before .before .loop-test .left)) (omega (arith, below, s .1)),
+      (omega (arith, h .near, below, s .1), (owing-by _ _, sooner-too _ _ _ _ _ _ (s .0) below)),
     )
 
 pub clear-of-spec : {M : Type 1} → statement M

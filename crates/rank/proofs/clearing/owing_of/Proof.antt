@@ -1,19 +1,17 @@
 -- Asleep or not.
 -- Assumes nothing.
-use native.Mathlib.Omega.{arith}
-use mathlib.Core.Logic.{inl, inr}
 use borrow.Author.Needs.{needs}
 use Rattle.rank.proofs.clearing.owing_of.Statement.{statement}
 use Rattle.rank.proofs.clearing.owing_of.Tie as tie
 
 returns : tie.Need-returns
-returns c = (inl (c .if1 .taken), omega arith)
+returns c = search needs
 
 least-of-requires : tie.Need-least-of-requires
 least-of-requires c κs = search needs
 
 returns-2 : tie.Need-returns-2
-returns-2 c = (inr (omega (arith, c .least-of .ensures)), omega (arith, c .least-of .ensures))
+returns-2 c = rw (c .before .if1 .left) (c .least-of .ensures)
 
 pub owing-of-spec : {M : Type 1} → statement M
 owing-of-spec = tie.close (tie.spec returns least-of-requires returns-2)

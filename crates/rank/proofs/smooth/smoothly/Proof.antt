@@ -5,14 +5,14 @@ use native.Mathlib.Omega.{arith}
 use mathlib.Core.Bool.{_&&_, not}
 use lib.Dec.{eqb, ltb}
 use lib.ListN.{length}
+use borrow.Author.Tests.{not-false, not-true}
 use borrow.Author.Needs.{needs}
 use Rattle.edges.specs.Parts.{deviceBy}
 use Rattle.edges.specs.Floors.{noFloor}
 use Rattle.edges.specs.Running.{trackOf}
 use Rattle.edges.specs.Lane.{Laning}
-use Rattle.edges.proofs.Stands.{last-edge, one-more}
-use Rattle.edges.proofs.Lane.{by-the-codes, lane-start, lane-base, lane-stands, lane-quick, lane-seldom, lane-out}
-use Rattle.edges.proofs.Exits.{pass-needs}
+use Rattle.edges.proofs.Lane.{by-the-codes, lane-start, lane-base, lane-stands, lane-quick, lane-seldom, lane-unmoved, lane-out}
+use Rattle.edges.proofs.Exits.{lane-ahead}
 use Rattle.rank.proofs.smooth.smoothly.Statement.{statement}
 use Rattle.rank.proofs.smooth.smoothly.Tie as tie
 
@@ -78,103 +78,68 @@ returns c =
     (p2 .quick .ensures) in
     lane-out lane
 
-record-at-requires-2 : tie.Need-record-at-requires-2 Inv-loop μ-loop
-record-at-requires-2 c κs =
-    let p2 = c .before .before in let p19 = p2 .before .before .before .before .before .before .before .before .before .before .before .before .before .before .before .before .before in
-    let p25 = p19 .before .before .before .before .before .before in let p28 = p25 .before .before .before in let p30 = p28 .before .before in let peek = p28 .record-at .result in
-    let asks = p25 .asks-anew in
-    let lane = lane-quick (p30 .loop .inv) (peek .cke && (ltb 1 (peek .pins) && not (eqb (peek .pins) 6))) _ (asks .ensures .0) (asks .ensures .1) _ (p19 .if-so .ensures .0) _ _
-    (p2 .quick .ensures) in
-    let base = lane-base lane in
-    omega (arith, base .within, base .sixes, c .if1 .left)
-
-add-e1 : tie.Need-add-e1 Inv-loop μ-loop
-add-e1 c =
-    let p1 = c .before in let p2 = p1 .before in let p4 = p2 .before .before in
-    let p21 = p4 .before .before .before .before .before .before .before .before .before .before .before .before .before .before .before .before .before in
-    let p27 = p21 .before .before .before .before .before .before in let p30 = p27 .before .before .before in let p32 = p30 .before .before in let peek = p30 .record-at .result in
-    let asks = p27 .asks-anew in
-    let lane = lane-quick (p32 .loop .inv) (peek .cke && (ltb 1 (peek .pins) && not (eqb (peek .pins) 6))) _ (asks .ensures .0) (asks .ensures .1) _ (p21 .if-so .ensures .0) _ _
-    (p4 .quick .ensures) in
-    omega (arith, last-edge _ _ _ _ _ (lane-base lane) (omega (arith, p2 .if1 .left)) (p1 .record-at2 .result) (p1 .record-at2 .ensures))
+pass-next-requires : tie.Need-pass-next-requires Inv-loop μ-loop
+pass-next-requires c κs =
+    let p13 = c .before .before .before .before .before .before .before .before .before .before .before .before .before in
+    let p15 = p13 .before .before in
+    let p32 = p15 .before .before .before .before .before .before .before .before .before .before .before .before .before .before .before .before .before in
+    let p38 = p32 .before .before .before .before .before .before in let p41 = p38 .before .before .before in let p43 = p41 .before .before in let peek = p41 .record-at .result in
+    let asks = p38 .asks-anew in
+    let lane = lane-quick (p43 .loop .inv) (peek .cke && (ltb 1 (peek .pins) && not (eqb (peek .pins) 6))) _ (asks .ensures .0) (asks .ensures .1) _ (p32 .if-so .ensures .0) _ _
+    (p15 .quick .ensures) in
+    lane-ahead lane (omega (arith, p13 .if1 .left))
 
 returns-2 : tie.Need-returns-2 Inv-loop μ-loop
 returns-2 c =
-    let p16 = c .before .before .before .before .before .before .before .before .before .before .before .before .before .before .before .before in
-    let p33 = p16 .before .before .before .before .before .before .before .before .before .before .before .before .before .before .before .before .before in
-    let p39 = p33 .before .before .before .before .before .before in let p42 = p39 .before .before .before in let p44 = p42 .before .before in let peek = p42 .record-at .result in
-    let asks = p39 .asks-anew in
-    let lane = lane-quick (p44 .loop .inv) (peek .cke && (ltb 1 (peek .pins) && not (eqb (peek .pins) 6))) _ (asks .ensures .0) (asks .ensures .1) _ (p33 .if-so .ensures .0) _ _
-    (p16 .quick .ensures) in
-    lane-out lane
+    let p18 = c .before .before .before .before .before .before .before .before .before .before .before .before .before .before .before .before .before .before in
+    let p35 = p18 .before .before .before .before .before .before .before .before .before .before .before .before .before .before .before .before .before in
+    let p41 = p35 .before .before .before .before .before .before in let p44 = p41 .before .before .before in let p46 = p44 .before .before in let peek = p44 .record-at .result in
+    let asks = p41 .asks-anew in
+    let lane = lane-quick (p46 .loop .inv) (peek .cke && (ltb 1 (peek .pins) && not (eqb (peek .pins) 6))) _ (asks .ensures .0) (asks .ensures .1) _ (p35 .if-so .ensures .0) _ _
+    (p18 .quick .ensures) in
+    lane-unmoved lane (c .before .before .pass-next .ensures .1 (not-true _ (c .if2 .taken)))
 
 add-at : tie.Need-add-at Inv-loop μ-loop
 add-at c =
-    let p14 = c .before .before .before .before .before .before .before .before .before .before .before .before .before .before in
-    let p16 = p14 .before .before in
-    let p33 = p16 .before .before .before .before .before .before .before .before .before .before .before .before .before .before .before .before .before in
-    let p39 = p33 .before .before .before .before .before .before in
-    let p42 = p39 .before .before .before in
-    let p44 = p42 .before .before in
-    let p58 = p44 .before .before .before .before .before .before .before .before .before .before .before .before .before .before in
-    let peek = p42 .record-at .result in
-    let asks = p39 .asks-anew in
-    let lane = lane-quick (p44 .loop .inv) (peek .cke && (ltb 1 (peek .pins) && not (eqb (peek .pins) 6))) _ (asks .ensures .0) (asks .ensures .1) _ (p33 .if-so .ensures .0) _ _
-    (p16 .quick .ensures) in
-    omega (arith, lane-base lane .within, lane-base lane .sixes, p14 .if1 .left, p58 .good)
+    let p16 = c .before .before .before .before .before .before .before .before .before .before .before .before .before .before .before .before in
+    let p18 = p16 .before .before in
+    let p35 = p18 .before .before .before .before .before .before .before .before .before .before .before .before .before .before .before .before .before in
+    let p41 = p35 .before .before .before .before .before .before in let p44 = p41 .before .before .before in let p46 = p44 .before .before in let peek = p44 .record-at .result in
+    let asks = p41 .asks-anew in
+    let lane = lane-quick (p46 .loop .inv) (peek .cke && (ltb 1 (peek .pins) && not (eqb (peek .pins) 6))) _ (asks .ensures .0) (asks .ensures .1) _ (p35 .if-so .ensures .0) _ _
+    (p18 .quick .ensures) in
+    omega (arith, lane-ahead lane (omega (arith, p16 .if1 .left)) .within, p46 .before .before .before .before .before .before .before .before .before .before .before .before .before .before .good)
 
 add-no : tie.Need-add-no Inv-loop μ-loop
 add-no c =
-    let p13 = c .before .before .before .before .before .before .before .before .before .before .before .before .before in let p14 = p13 .before in let p16 = p14 .before .before in
-    let p33 = p16 .before .before .before .before .before .before .before .before .before .before .before .before .before .before .before .before .before in
-    let p39 = p33 .before .before .before .before .before .before in let p42 = p39 .before .before .before in let p44 = p42 .before .before in let peek = p42 .record-at .result in
-    let asks = p39 .asks-anew in
-    let lane = lane-quick (p44 .loop .inv) (peek .cke && (ltb 1 (peek .pins) && not (eqb (peek .pins) 6))) _ (asks .ensures .0) (asks .ensures .1) _ (p33 .if-so .ensures .0) _ _
-    (p16 .quick .ensures) in
-    omega (arith, one-more _ _ _ _ _ (lane-base lane) (omega (arith, p14 .if1 .left)) (p13 .record-at2 .result) (p13 .record-at2 .ensures))
-
-pass-requires : tie.Need-pass-requires Inv-loop μ-loop
-pass-requires c κs =
-    let p24 = c .before .before .before .before .before .before .before .before .before .before .before .before .before .before .before .before .before .before .before .before .before .before .before .before in
-    let p25 = p24 .before in
-    let p27 = p25 .before .before in
-    let p44 = p27 .before .before .before .before .before .before .before .before .before .before .before .before .before .before .before .before .before in
-    let p50 = p44 .before .before .before .before .before .before in
-    let p53 = p50 .before .before .before in
-    let p55 = p53 .before .before in
-    let peek = p53 .record-at .result in
-    let asks = p50 .asks-anew in
-    let lane = lane-quick (p55 .loop .inv) (peek .cke && (ltb 1 (peek .pins) && not (eqb (peek .pins) 6))) _ (asks .ensures .0) (asks .ensures .1) _ (p44 .if-so .ensures .0) _ _
-    (p27 .quick .ensures) in
-    pass-needs lane (omega (arith, p25 .if1 .left)) (p24 .record-at2 .result) (p24 .record-at2 .ensures)
+    let p16 = c .before .before .before .before .before .before .before .before .before .before .before .before .before .before .before .before in
+    let p18 = p16 .before .before in
+    let p35 = p18 .before .before .before .before .before .before .before .before .before .before .before .before .before .before .before .before .before in
+    let p41 = p35 .before .before .before .before .before .before in let p44 = p41 .before .before .before in let p46 = p44 .before .before in let peek = p44 .record-at .result in
+    let asks = p41 .asks-anew in
+    let lane = lane-quick (p46 .loop .inv) (peek .cke && (ltb 1 (peek .pins) && not (eqb (peek .pins) 6))) _ (asks .ensures .0) (asks .ensures .1) _ (p35 .if-so .ensures .0) _ _
+    (p18 .quick .ensures) in
+    omega (arith, lane-ahead lane (omega (arith, p16 .if1 .left)) .count)
 
 loop-less : tie.Need-loop-less Inv-loop μ-loop
 loop-less c =
-    let p28 = c .before .before .before .before .before .before .before .before .before .before .before .before .before .before .before .before .before .before .before .before .before .before .before .before .before .before .before .before in
-    let p30 = p28 .before .before in
-    let p57 = p30 .before .before .before .before .before .before .before .before .before .before .before .before .before .before .before .before .before .before .before .before .before .before .before .before .before .before .before in
-    omega (arith, p30 .quick .ensures .later, p28 .if1 .left, p57 .loop-test .taken)
+    let p19 = c .before .before .before .before .before .before .before .before .before .before .before .before .before .before .before .before .before .before .before in
+    let p21 = p19 .before .before in
+    let p48 = p21 .before .before .before .before .before .before .before .before .before .before .before .before .before .before .before .before .before .before .before .before .before .before .before .before .before .before .before in
+    omega (arith, p21 .quick .ensures .later, p19 .if1 .left, p48 .loop-test .taken)
 
 loop-again : tie.Need-loop-again Inv-loop μ-loop
 loop-again c =
-    let p2 = c .before .before in
-    let p13 = p2 .before .before .before .before .before .before .before .before .before .before .before in
-    let p14 = p13 .before in
-    let p15 = p14 .before in
-    let p25 = p15 .before .before .before .before .before .before .before .before .before .before in
-    let p27 = p25 .before .before in
-    let p28 = p27 .before in
-    let p30 = p28 .before .before in
-    let p47 = p30 .before .before .before .before .before .before .before .before .before .before .before .before .before .before .before .before .before in
-    let p53 = p47 .before .before .before .before .before .before in
-    let p56 = p53 .before .before .before in
-    let p58 = p56 .before .before in
-    let peek = p56 .record-at .result in
-    let asks = p53 .asks-anew in
-    let lane = lane-quick (p58 .loop .inv) (peek .cke && (ltb 1 (peek .pins) && not (eqb (peek .pins) 6))) _ (asks .ensures .0) (asks .ensures .1) _ (p47 .if-so .ensures .0) _ _
-    (p30 .quick .ensures) in
-    lane-seldom lane (omega (arith, p28 .if1 .left)) (p27 .record-at2 .result) (p27 .record-at2 .ensures) (p25 .command-of .result) (p25 .command-of .ensures)
-    (p15 .may .result) (p14 .if2 .left) (p15 .may .ensures) _ _ _ _ _ _ _ (p2 .pass .ensures) _ (p13 .rank-of .ensures)
+    let p3 = c .before .before .before in
+    let p5 = p3 .before .before in
+    let p19 = p5 .before .before .before .before .before .before .before .before .before .before .before .before .before .before in
+    let p21 = p19 .before .before in
+    let p38 = p21 .before .before .before .before .before .before .before .before .before .before .before .before .before .before .before .before .before in
+    let p44 = p38 .before .before .before .before .before .before in let p47 = p44 .before .before .before in let p49 = p47 .before .before in let peek = p47 .record-at .result in
+    let asks = p44 .asks-anew in
+    let lane = lane-quick (p49 .loop .inv) (peek .cke && (ltb 1 (peek .pins) && not (eqb (peek .pins) 6))) _ (asks .ensures .0) (asks .ensures .1) _ (p38 .if-so .ensures .0) _ _
+    (p21 .quick .ensures) in
+    lane-seldom lane (omega (arith, p19 .if1 .left)) (p5 .pass-next .ensures .0 (not-false _ (p3 .if2 .left)))
 
 returns-3 : tie.Need-returns-3 Inv-loop μ-loop
 returns-3 c =
@@ -204,15 +169,10 @@ smoothly-spec =
     (λ c κs. search needs)
     quick-requires
     returns
-    record-at-requires-2
-    add-e1
-    (λ c κs. search needs)
-    (λ c κs. search needs)
+    pass-next-requires
     returns-2
     add-at
     add-no
-    (λ c κs. search needs)
-    pass-requires
     loop-less
     loop-again
     returns-3)

@@ -1,0 +1,22 @@
+use borrow.Author.Needs.{needs}
+use Rattle.rank.proofs.entering.write_over.Statement.{statement}
+use Rattle.rank.proofs.entering.write_over.Tie as tie
+
+one-of-requires : tie.Need-one-of-requires
+one-of-requires c κs = search needs
+
+one-of-requires-2 : tie.Need-one-of-requires-2
+one-of-requires-2 c κs = search needs
+
+cast-result : tie.Need-cast-result
+cast-result c = search needs
+
+since-requires : tie.Need-since-requires
+since-requires c κs = search needs
+
+returns : tie.Need-returns
+returns c = simp (c .since .ensures, c .before .one-of2 .ensures, c .before .before .one-of .ensures)
+
+pub write-over-spec : {M : Type 1} → statement M
+write-over-spec =
+    tie.close (tie.spec one-of-requires one-of-requires-2 cast-result since-requires returns)
