@@ -18,6 +18,7 @@ pub mod Turns
 pub mod Latest
 pub mod Entering
 pub mod Coming
+pub mod Keeping
 pub mod Lane
 pub mod Reaching
 pub mod Stamps
