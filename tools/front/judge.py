@@ -5,21 +5,20 @@ import subprocess
 import sys
 
 from brief import told
+from exporting import exported
 from files import Unreadable, parts, refuse_at_once, shown
+from importing import imported
 from options import HELP, USAGE, Wrong, asked
 from programs import ROOT, Failed, answer, built
 from records import around, table
 from report import report
+from tell import complain
 from values import as_json, lines, listed, said
 
 CLEAN, BROKEN, NONE, LOST = 0, 1, 2, 3
 STATUS = {b'clean': CLEAN, b'broken': BROKEN, b'refused': NONE}
 OUTCOME = {'clean': CLEAN, 'broken': BROKEN, 'none': NONE}
 HEADER = RECORD = 6
-
-
-def complain(words):
-    print(f'judge: {words}', file=sys.stderr, flush=True)
 
 
 def status(line):
@@ -123,6 +122,14 @@ def listing(wanted):
     return text_of(table(found, listed(wanted.files, first, last), wanted.files)), OUTCOME[found['outcome']]
 
 
+def judged(names):
+    """The values, where there is a verdict."""
+    found = told_of(names)
+    if found['outcome'] == 'none':
+        raise Unreadable(told(found, shown(names[-1])))
+    return found
+
+
 def version():
     commit = first_line('git', '-C', ROOT, 'rev-parse', 'HEAD') if (ROOT / '.git').exists() else ''
     return f'manilaply {commit or "of an unknown commit"}\n{first_line("rt", "version") or "rt is not to be found"}\n'.encode(), CLEAN
@@ -154,6 +161,10 @@ def run(words):
         return laid_out(wanted)
     if wanted.mode == 'list':
         return listing(wanted)
+    if wanted.mode == 'import':
+        return text_of(imported(wanted)), CLEAN
+    if wanted.mode == 'export':
+        return text_of(exported(wanted, lambda: judged(wanted.files))), CLEAN
     return judge(wanted.files)
 
 

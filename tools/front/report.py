@@ -9,7 +9,10 @@ BINS = ['1066', '1333', '1600', '1866']
 
 def ns(said, edge):
     """An edge in ns."""
-    ps = int(edge) * int(said['period_ps'])
+    return ns_of(int(edge) * int(said['period_ps']))
+
+
+def ns_of(ps):
     return f'{ps // 1000}.{ps % 1000:03d}'.rstrip('0').rstrip('.') + ' ns'
 
 
