@@ -67,6 +67,8 @@ class Edges:
     counted by time."""
 
     def __init__(self, times, period, still):
+        if still and times.unit is None:
+            raise Unreadable('it tells no time, and --still counts edges by time')
         self.times, self.still = times, still
         self.period = None if period is None or times.unit is None else period * FS_A_PS / times.unit
         self.count = self.seen = self.missed = self.stops = self.stopped = 0

@@ -138,7 +138,8 @@ def remarks(wanted, capture, pins, clock, sampler):
 def told(wanted, capture, pins, clock, sampler, writer, end, period):
     layout = pins.layout
     yield f'{shown(wanted.out)}: edition {layout.edition}, {writer.count} records' + (f', {writer.fillers} of them fillers' if writer.fillers else '')
-    yield f'  edges: {end}' + (f', {clock.missed + end - clock.count} of them counted by time where the clock stood still' if clock.missed or end > clock.count else '')
+    places = '' if capture.times.unit is None else f', edge 1 at {capture.times.told(clock.first)}, edge {clock.count} at {capture.times.told(clock.last)}'
+    yield f'  edges: {end}{places}' + (f', {clock.missed + end - clock.count} of them counted by time where the clock stood still' if clock.missed or end > clock.count else '')
     yield f'  period: {period} ps, {"measured" if wanted.period is None else "given"}{jitter(capture.times, clock)}'
     span = None if capture.times.unit is None else (clock.last - clock.first) * capture.times.unit
     yield '  span: ' + (f'{ns_of(end * period)}, {end} edges of {period} ps' if span is None else f'{ns_of(round(span / 1000))}, from the first edge to the last')

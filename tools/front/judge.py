@@ -1,15 +1,13 @@
 """./judge: judges recordings with the proved programs and tells clean from broken by its status. `judge --help` tells how."""
 
 import os
-import subprocess
 import sys
 
 from brief import told
-from exporting import exported
 from files import Unreadable, parts, refuse_at_once, shown
-from importing import imported
-from options import HELP, USAGE, Wrong, asked
-from programs import ROOT, Failed, answer, built
+from identity import commit, kit
+from options import HELP, USAGE, WRITES, Wrong, asked
+from programs import Failed, answer, built
 from records import around, table
 from report import report
 from tell import complain
@@ -130,18 +128,14 @@ def judged(names):
     return found
 
 
+def writing(wanted):
+    from writing import wrote  # here, so that a plain verdict does not wait for what only these modes need
+    some, outcome = wrote(wanted, lambda: judged(wanted.files))
+    return text_of(some), OUTCOME[outcome]
+
+
 def version():
-    commit = first_line('git', '-C', ROOT, 'rev-parse', 'HEAD') if (ROOT / '.git').exists() else ''
-    return f'manilaply {commit or "of an unknown commit"}\n{first_line("rt", "version") or "rt is not to be found"}\n'.encode(), CLEAN
-
-
-def first_line(*words):
-    """What a command says, or nothing where it cannot be run."""
-    try:
-        ran = subprocess.run(words, capture_output=True, text=True, check=False)
-    except OSError:
-        return ''
-    return ran.stdout.strip() if ran.returncode == 0 else ''
+    return f'manilaply {commit()}\n{kit()}\n'.encode(), CLEAN
 
 
 def write(text):
@@ -161,10 +155,8 @@ def run(words):
         return laid_out(wanted)
     if wanted.mode == 'list':
         return listing(wanted)
-    if wanted.mode == 'import':
-        return text_of(imported(wanted)), CLEAN
-    if wanted.mode == 'export':
-        return text_of(exported(wanted, lambda: judged(wanted.files))), CLEAN
+    if wanted.mode in WRITES:
+        return writing(wanted)
     return judge(wanted.files)
 
 

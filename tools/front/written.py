@@ -5,6 +5,7 @@ import os
 import tempfile
 
 from files import Unreadable, shown
+from programs import Failed
 
 
 @contextlib.contextmanager
@@ -16,7 +17,7 @@ def beside(name):
     try:
         handle, place = tempfile.mkstemp(dir=folder, prefix=b'.' + last[:100] + b'.')
     except OSError as error:
-        raise Unwritten(f'{shown(name)}: it cannot be written: {error.strerror}') from None
+        raise Failed(f'{shown(name)}: it cannot be written: {error.strerror.lower()}') from None
     try:
         with open(handle, 'w+b') as file:
             yield file, place
@@ -33,14 +34,6 @@ def apart(name, others):
     for other in others:
         if os.path.exists(name) and os.path.exists(other) and os.path.samefile(name, other):
             raise Unreadable(f'{shown(name)}: it is read, and would be written over')
-
-
-class Unwritten(OSError):
-    """What was asked for could not be written."""
-
-    def __init__(self, words):
-        super().__init__(words)
-        self.strerror = words
 
 
 def mask():

@@ -1,0 +1,67 @@
+"""What a picture of a break shows, from left to right: edges one by one where they are to be counted, and folds where time is left out."""
+
+from values import listed
+
+NEAR, APART = 2, 9  # records that are drawn around one; so many from the earlier one to the break are drawn all
+COUNTED, ELSEWHERE = 24, 3  # so many empty edges are drawn one by one between the ends of the arrow, and elsewhere
+CELL, QUIET, FOLD = 74, 26, 92
+LETTER = 7
+
+
+class Slot:
+    """An edge, with its record if it has one; or, where edge is None, a fold of so many edges with so many records. x is given to it by the drawing."""
+
+    def __init__(self, edge, record=None, named=False, edges=0, records=0):
+        self.edge, self.record, self.named, self.edges, self.records, self.x = edge, record, named or record is not None, edges, records, 0
+        self.width = FOLD if edge is None else max(CELL, LETTER * (len(str(edge)) + 4)) if self.named else QUIET
+
+    @property
+    def middle(self):
+        return self.x + self.width / 2
+
+    @property
+    def right(self):
+        return self.x + self.width
+
+
+class Break:
+    """start and edge are the ends of the arrow, limit the edge that the rule names; None where the rule counts no clocks."""
+
+    def __init__(self, said, names):
+        self.said, self.rule, self.edge = said, int(said['rule']), int(said['edge'])
+        self.number, self.partner = int(said['record']), int(said['partner'])
+        self.partner_edge = int(said['partner_edge']) if self.partner else None
+        self.counted = self.rule not in (1, 2, 3, 23, 25)
+        self.start = self.edge - int(said['found']) if self.counted else self.partner_edge
+        self.limit = self.start + int(said['needed']) if self.counted else None
+        self.records = {int(r['edge']): r for first, last in self.ranges() for r in listed(names, first, last)}
+
+    def ranges(self):
+        """The numbers of the records that are drawn, in one run or two."""
+        here = [int(self.said[what]) for what in ('record', 'earlier', 'later') if self.said.get(what, '0') != '0']
+        first, last = min(here), max(here)
+        if not self.partner:
+            return [(max(1, first - 2 * NEAR), last + NEAR)]
+        if first - self.partner <= APART:
+            return [(max(1, self.partner - NEAR), last + NEAR)]
+        return [(max(1, self.partner - NEAR), self.partner + NEAR), (first - NEAR, last + NEAR)]
+
+    def slots(self):
+        places = sorted({*self.records, self.edge, *(edge for edge in (self.start, self.limit) if edge is not None)})
+        found, last, number = [], None, None
+        for edge in places:
+            record = self.records.get(edge)
+            if last is not None:
+                skipped = record['number'] - number - 1 if record and number else 0
+                found += self.between(last, edge, skipped)
+            found.append(Slot(edge, record, named=True))
+            last, number = edge, record['number'] if record else number
+        return found
+
+    def between(self, last, edge, skipped):
+        """The edges between two places, of which some may have records that are not drawn."""
+        empty = edge - last - 1
+        inside = self.counted and self.start <= last and edge <= max(self.edge, self.limit)
+        if not skipped and empty <= (COUNTED if inside else ELSEWHERE):
+            return [Slot(quiet) for quiet in range(last + 1, edge)]
+        return [Slot(None, edges=empty, records=skipped)]
