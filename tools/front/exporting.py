@@ -149,6 +149,8 @@ def draw(dump, found, said, progress):
         if not begun:
             dump.begin(remark, layout.idle(word | layout.mask('CKE')))
             begun = True
+            if edge > 1:
+                dump.put(1, dump.word | marked.pop(1, 0), none)  # edges are counted from the first that is drawn
         for early in [at for at in marked if at < edge]:  # a deadline, which has no record
             dump.put(early, dump.idle() | marked.pop(early), none)
         dump.put(edge, word | marked.pop(edge, 0), {which: some.of(word) for which, some in names.items()})

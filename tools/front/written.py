@@ -21,7 +21,7 @@ def beside(name):
     try:
         with open(handle, 'w+b') as file:
             yield file, place
-        os.chmod(place, 0o666 & ~mask())
+        os.chmod(place, os.stat(name).st_mode & 0o777 if os.path.exists(name) else 0o666 & ~mask())
         os.replace(place, os.path.join(folder, last))
     except BaseException:
         with contextlib.suppress(OSError):
