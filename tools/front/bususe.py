@@ -121,7 +121,7 @@ def debts(sheet, use, said, y):
     y += 14
 
     def height(debt):
-        return y + TALL * (LIMIT + 1 - debt) / (2 * LIMIT + 2)
+        return y + TALL * (LIMIT + 2 - debt) / (2 * LIMIT + 4)
     for debt in range(-LIMIT, LIMIT + 1, 4):
         sheet.line('dash' if abs(debt) == LIMIT else 'thin', LEFT - 4, height(debt), LEFT + WIDTH, height(debt))
         sheet.text('small', LEFT - 8, height(debt) + 4, str(debt), 'end')
@@ -131,8 +131,8 @@ def debts(sheet, use, said, y):
             sheet.rect('dotted', LEFT + i * wide, height(most), wide, height(least) - height(most))
         else:
             sheet.line('arrow', LEFT + i * wide, height(least), LEFT + (i + 1) * wide, height(least))
-    sheet.centred('small', LEFT + WIDTH / 2, height(LIMIT) - 4, 'limit: 9 owed would break rule 25', 11)
-    sheet.centred('small', LEFT + WIDTH / 2, height(-LIMIT) + 14, 'no more than 8 ahead are counted', 11)
+    sheet.text('small', LEFT + WIDTH, height(LIMIT) - 5, 'limit: 9 owed would break rule 25', 'end')
+    sheet.text('small', LEFT + WIDTH, height(-LIMIT) + 14, 'limit: no more than 8 ahead are counted', 'end')
     sheet.line('wire', LEFT, y + TALL, LEFT + WIDTH, y + TALL)
     return ticks(sheet, use, said, y + TALL)
 
@@ -141,7 +141,7 @@ def ticks(sheet, use, said, y):
     """The time axis; where the next thing goes."""
     whole = use.end * int(said['period_ps'])
     size, unit = next(((size, unit) for size, unit in UNITS if whole >= 10 * size), UNITS[-1])
-    step = nice(whole / size / 6)
+    step = nice(whole / size / 6, (1, 2, 5, 10))
     at = 0
     while at * size <= whole:
         x = LEFT + WIDTH * at * size / whole
@@ -151,11 +151,11 @@ def ticks(sheet, use, said, y):
     return y + 18
 
 
-def nice(value):
-    """The next number up of the form 1, 2, 4 or 5 and zeros."""
+def nice(value, forms=(1, 1.2, 1.6, 2, 2.4, 3.2, 4, 6, 8, 10)):
+    """The next number up that is one of these forms times a power of ten. Unless told otherwise its quarters are round too."""
     size = 1.0
     while size * 10 <= value:
         size *= 10
     while size > value and size > 1e-6:
         size /= 10
-    return next(size * n for n in (1, 2, 4, 5, 10) if size * n >= value) if value else 1
+    return next(size * n for n in forms if size * n >= value) if value else 1

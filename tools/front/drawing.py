@@ -3,7 +3,7 @@
 import textwrap
 from xml.sax.saxutils import escape
 
-WIDE = 0.62  # a letter's width by its size, taken a little large
+WIDE, BOLD = 0.62, 0.7  # a letter's width by its size, taken a little large
 
 STYLE = '''
 .mp text { font-family: "DejaVu Sans", Verdana, Arial, sans-serif; font-size: 12px; fill: #000; }
@@ -53,9 +53,9 @@ class Sheet:
     def text(self, name, x, y, words, anchor='start'):
         self.parts.append(f'<text class="{name}" x="{number(x)}" y="{number(y)}" text-anchor="{anchor}">{escape(words)}</text>')
 
-    def centred(self, name, x, y, words, size=12):
+    def centred(self, name, x, y, words, size=12, wide=WIDE):
         """Text about a place, moved so that none of it leaves the sheet. On a ground of its own, so that no line runs through it."""
-        half = len(words) * size * WIDE / 2 + 4
+        half = len(words) * size * wide / 2 + 4
         x = min(max(x, half + 4), self.width - half - 4)
         self.rect('ground', x - half, y - size, 2 * half, size + 5)
         self.text(name, x, y, words, 'middle')

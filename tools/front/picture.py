@@ -2,14 +2,14 @@
 
 from brief import BANKED
 from bususe import bus_use
-from drawing import WIDE, Sheet
+from drawing import BOLD, WIDE, Sheet
 from files import shown
 from report import broken, ns, part
 from slots import Break
 from words import NAMES, RULES
 
 GUTTER, MARGIN, LEAST = 92, 24, 980
-LABELS = {'earlier': 18, 'break': 22}
+LABELS = {'label': 22}
 RULERS = {'edge': 16, 'ns': 16, 'record': 22}
 WIRES = {'CK': 34, 'CKE': 34}
 BUSES = {'command': 38, 'BA': 34, 'A': 34}
@@ -51,8 +51,8 @@ class Drawing:
         for slot in self.slots:
             slot.x, x = x, x + slot.width
         self.right = x
-        self.sheet = Sheet(max(LEAST, x + MARGIN))
         self.at = {slot.edge: slot for slot in self.slots if slot.edge is not None}
+        self.sheet = Sheet(max(LEAST, x + MARGIN, *(slot.x + len(words) * 12 * BOLD + MARGIN for slot, _, words, _ in self.marks())))
         self.tops = {}
 
     def svg(self, inline):
@@ -66,32 +66,32 @@ class Drawing:
         for draw in self.rulers, self.clock, self.enable, self.buses, self.folds:
             draw()
         y = self.arrow(y + 4) + 14
-        for words in broken(self.said, shown(self.names[-1])):
+        for words in list(broken(self.said, shown(self.names[-1])))[1:]:  # the heading has the first
             for line in words.split('\n'):
                 y = sheet.lines('', MARGIN, y, line)
         y = sheet.lines('small faint', MARGIN, y + 8, 'Drawn by ./judge --picture. Verdict, records and numbers are the proved program\'s; the drawing itself is not proved.', 11)
         return sheet.svg('; '.join(head), y + 4, inline)
 
-    def bands(self):
-        """The two places of the break, hatched and dotted over all lanes, with what they are above them."""
+    def marks(self):
+        """The two places of the break: slot, filling and what it is. The earlier one's words end with its slot, the other's begin with it."""
         what = self.what
         if what.partner:
-            self.band(self.at[what.partner_edge], 'dotted', 'earlier', f'earlier record {what.partner}')
-        words = f'record {what.number} breaks rule {what.rule}' if what.number else f'rule {what.rule} is broken here, by no record'
-        self.band(self.at[what.edge], 'hatched', 'break', words)
+            yield self.at[what.partner_edge], 'dotted', f'earlier record {what.partner}', 'end'
+        yield self.at[what.edge], 'hatched', f'record {what.number} breaks rule {what.rule}' if what.number else f'rule {what.rule} is broken at this edge', 'start'
 
-    def band(self, slot, name, lane, words):
-        top = self.tops[lane]
-        self.sheet.rect(name, slot.x, top + 14, slot.width, self.bottom + 4 - top - 14)
-        self.sheet.centred('strong', slot.middle, top + 10, words)
+    def bands(self):
+        for slot, name, words, anchor in self.marks():
+            top = self.tops['label'] + 14
+            self.sheet.rect(name, slot.x, top, slot.width, self.bottom + 4 - top)
+            self.sheet.text('strong', slot.x if anchor == 'start' else max(slot.right, 8 + len(words) * 12 * BOLD), top - 4, words, anchor)
 
     def rulers(self):
         for lane in RULERS:
             self.sheet.text('small', GUTTER - 12, self.tops[lane] + 13, lane, 'end')
         for slot in self.slots:
-            if slot.named:
+            if slot.label:
                 self.over(slot, 'edge', str(slot.edge))
-                self.over(slot, 'ns', ns(self.said, slot.edge)[:-3])
+                self.over(slot, 'ns', slot.label)
             if slot.record:
                 self.over(slot, 'record', str(slot.record['number']))
 
@@ -159,21 +159,19 @@ class Drawing:
         """From where the clocks are counted to the break, with what was found; under it the edges that are no record's. Where the next text goes."""
         what, sheet = self.what, self.sheet
         if what.start is None:
-            return y
-        start, end = self.at[what.start], self.at[what.edge]
+            return y + 8
+        start, end, others = self.at[what.start], self.at[what.edge], list(self.others())
+        for i, (edge, words) in enumerate(others):
+            x = self.at[edge].middle
+            sheet.line('dash', x, self.tops['CK'], x, y + 48 + 20 * i)
+            sheet.centred('', x, y + 58 + 20 * i, words)
         for slot in start, end:
             sheet.line('wire', slot.middle, self.bottom + 4, slot.middle, y + 22)
         sheet.line('arrow', start.middle, y + 16, end.middle, y + 16)
         for x, way in (start.middle, 1), (end.middle, -1):
             sheet.path('solid', [(x, y + 16), (x + way * 9, y + 11), (x + way * 9, y + 21)], closed=True)
-        sheet.centred('strong', (start.middle + end.middle) / 2, y + 38, self.found())
-        y += 42
-        for edge, words in self.others():
-            slot = self.at[edge]
-            sheet.line('dash', slot.middle, self.tops['CK'], slot.middle, y + 6)
-            sheet.centred('', slot.middle, y + 16, words)
-            y += 20
-        return y + 4
+        sheet.centred('strong', (start.middle + end.middle) / 2, y + 38, self.found(), 12, BOLD)
+        return y + 46 + 20 * len(others)
 
     def others(self):
         """Edges that the arrow is measured by and that are neither record's."""

@@ -1,5 +1,6 @@
 """What a picture of a break shows, from left to right: edges one by one where they are to be counted, and folds where time is left out."""
 
+from report import ns
 from values import listed
 
 NEAR, APART = 2, 9  # records that are drawn around one; so many from the earlier one to the break are drawn all
@@ -9,11 +10,12 @@ LETTER = 7
 
 
 class Slot:
-    """An edge, with its record if it has one; or, where edge is None, a fold of so many edges with so many records. x is given to it by the drawing."""
+    """An edge, with its record if it has one, and its time as a label if it is to have one; or, where edge is None, a fold of so many edges
+    with so many records. x is given to it by the drawing."""
 
-    def __init__(self, edge, record=None, named=False, edges=0, records=0):
-        self.edge, self.record, self.named, self.edges, self.records, self.x = edge, record, named or record is not None, edges, records, 0
-        self.width = FOLD if edge is None else max(CELL, LETTER * (len(str(edge)) + 4)) if self.named else QUIET
+    def __init__(self, edge, record=None, label='', edges=0, records=0):
+        self.edge, self.record, self.label, self.edges, self.records, self.x = edge, record, label, edges, records, 0
+        self.width = max(FOLD, LETTER * len(f'  {edges} edges  ')) if edge is None else max(CELL, LETTER * (len(label) + 2)) if label else QUIET
 
     @property
     def middle(self):
@@ -48,20 +50,21 @@ class Break:
 
     def slots(self):
         places = sorted({*self.records, self.edge, *(edge for edge in (self.start, self.limit) if edge is not None)})
-        found, last, number = [], None, None
+        found = [Slot(None, edges=places[0] - 1)] if places[0] > 1 and places[0] not in self.records else []  # nothing is before
+        last = number = None
         for edge in places:
             record = self.records.get(edge)
             if last is not None:
                 skipped = record['number'] - number - 1 if record and number else 0
                 found += self.between(last, edge, skipped)
-            found.append(Slot(edge, record, named=True))
+            found.append(Slot(edge, record, ns(self.said, edge)[:-3]))
             last, number = edge, record['number'] if record else number
         return found
 
     def between(self, last, edge, skipped):
         """The edges between two places, of which some may have records that are not drawn."""
         empty = edge - last - 1
-        inside = self.counted and self.start <= last and edge <= max(self.edge, self.limit)
+        inside = self.counted and self.limit - self.start <= COUNTED and self.start <= last and edge <= max(self.edge, self.limit)
         if not skipped and empty <= (COUNTED if inside else ELSEWHERE):
             return [Slot(quiet) for quiet in range(last + 1, edge)]
         return [Slot(None, edges=empty, records=skipped)]
