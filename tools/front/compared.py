@@ -21,7 +21,7 @@ class Compared:
 
     def idle(self, own):
         layout = self.layout
-        return not own & layout.mask('CKE') or own & layout.selects == layout.selects or own & layout.command == layout.command
+        return not own & layout.cke or own & layout.selects == layout.selects or own & layout.command == layout.command
 
     def filler(self):
         """The record says nothing: deselected, no address, and CKE as it was."""
@@ -35,7 +35,7 @@ class Compared:
             if edge < self.edge and word == quiet:
                 continue
             if self.held is None:
-                self.held = self.levels(word) | self.layout.mask('CKE')
+                self.held = self.levels(word) | self.layout.cke
             self.fillers_before(edge)
             quiet = self.at(edge, word)
         self.fillers_before(NEVER)

@@ -7,8 +7,8 @@ from fractions import Fraction
 
 from clock import Times, Turns
 from files import Unreadable
-from pins import UNKNOWN, Wire
-from vcd_read import UNITS, printable, start
+from pins import UNKNOWN, Wire, start
+from vcd_head import UNITS, printable
 
 MOST = 1 << 20  # bytes of a line
 RATES = {b'Hz': 1, b'kHz': 10 ** 3, b'MHz': 10 ** 6, b'GHz': 10 ** 9, b'THz': 10 ** 12}

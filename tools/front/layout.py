@@ -11,6 +11,9 @@ class Layout:
 
     def __init__(self, edition, size, pins):
         self.edition, self.size, self.below, self.pins = edition, size, size * 8 - 24, pins
+        self.all = self.mask(*pins)
+        self.kept = self.mask('RESET', 'CKE', 'ODT')  # these keep their level between records
+        self.cke, self.selects, self.command = self.mask('CKE'), self.mask('CS', 'CS1'), self.mask('RAS', 'CAS', 'WE')
 
     def mask(self, *names):
         """The bits of these pins."""
@@ -23,23 +26,6 @@ class Layout:
     def record(self, step, word):
         return (step << self.below | word).to_bytes(self.size, 'big')
 
-    @property
-    def all(self):
-        return self.mask(*self.pins)
-
-    @property
-    def kept(self):
-        """The pins that keep their level between records."""
-        return self.mask('RESET', 'CKE', 'ODT')
-
-    @property
-    def selects(self):
-        return self.mask('CS', 'CS1')
-
-    @property
-    def command(self):
-        return self.mask('RAS', 'CAS', 'WE')
-
     def idle(self, word):
         """A word that says nothing new: the kept levels of this one, deselected."""
         return word & self.kept | self.selects | self.command
@@ -48,7 +34,7 @@ class Layout:
         """Nothing happens: no kept level is another than before, and CKE is low, no CS is low, or it is a NOP."""
         if (before ^ word) & self.kept:
             return False
-        return not word & self.mask('CKE') or word & self.selects == self.selects or word & self.command == self.command
+        return not word & self.cke or word & self.selects == self.selects or word & self.command == self.command
 
 
 EDITIONS = {

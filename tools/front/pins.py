@@ -162,3 +162,9 @@ class Pins:
         near = [own.name for own in self.wires if last in own.name.lower()] or [own.name for own in self.wires]
         some = ', '.join(dict.fromkeys(near[:12])) + (', ..' if len(near) > 12 else '')
         return f'{name}: there is no wire {wire} in the capture (--pin {name}=WIRE maps it); it has {some or "none"}'
+
+
+def start(pins):
+    """The word before any change: each level that a wire carries is not known."""
+    carried = sum(bit for places in pins.places.values() for _, bit in places)
+    return pins.word | carried << UNKNOWN

@@ -31,13 +31,14 @@ class Sampler:
             if key == quiet:
                 continue
             if held is None:
-                held = self.filled(word) | layout.mask('CKE')
-                self.starts_low = not self.filled(word) & layout.mask('CKE')
+                held = self.filled(word) | layout.cke
+                self.starts_low = not self.filled(word) & layout.cke
             own = self.known(held, word, edge, time)
             if layout.quiet(held, own):
                 quiet = None if key >> UNKNOWN else key
             else:
-                self.careless += (word >> UNKNOWN & layout.all & ~self.mattering(held, own)).bit_count()
+                if word >> UNKNOWN:
+                    self.careless += (word >> UNKNOWN & layout.all & ~self.mattering(held, own)).bit_count()
                 held, quiet = own, None
                 yield edge, own
 
@@ -61,7 +62,7 @@ class Sampler:
         """The bits that the meaning of this edge hangs on."""
         layout = self.layout
         bits = layout.kept
-        if not (held | word) & layout.mask('CKE'):
+        if not (held | word) & layout.cke:
             return bits
         bits |= layout.selects
         if word & layout.selects == layout.selects:

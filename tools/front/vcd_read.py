@@ -1,4 +1,4 @@
-"""Value change dumps (IEEE 1364), as simulators, sigrok-cli and PulseView write them: the wires, and the levels before each rising edge.
+"""Value change dumps (IEEE 1364), as simulators, sigrok-cli and PulseView write them: the levels before each rising edge of the clock.
 
 At a rising edge the levels before that time count: a simulator changes its outputs at the very time of the clock, and they are meant for
 the next edge."""
@@ -8,28 +8,24 @@ import re
 from fractions import Fraction
 
 from clock import Times, Turns
-from files import Unreadable, escaped
-from pins import UNKNOWN, Wire
+from files import Unreadable
+from pins import CLOCK, UNKNOWN, start
+from vcd_head import scale, wires
 
-MOST = 1 << 20  # bytes of a line or a comment
-UNITS = {b's': 10 ** 15, b'ms': 10 ** 12, b'us': 10 ** 9, b'ns': 10 ** 6, b'ps': 10 ** 3, b'fs': 1}
-NO_LEVELS = {b'real', b'realtime', b'string', b'event', b'parameter'}
-HASH, DUMPS = ord('#'), {b'$dumpvars', b'$dumpall', b'$dumpon', b'$dumpoff'}
+MOST = 1 << 26  # bytes of the changes at one time, or of a comment
+KNOWN, SHORT = 1 << 12, 64  # so many texts of changes are kept, of so many bytes
+LEVELS = {'0': b'0lL', '1': b'1hH', 'x': b'xXzZuUwW-'}
+BLOCK = 0, 0
+DUMPS = {b'$dumpvars', b'$dumpall', b'$dumpon', b'$dumpoff'}
 
 
 class Vcd:
-    """A capture that can be read again and again. progress: told the bytes of each part."""
+    """A capture that can be read again and again. parts: gives its bytes from the start. progress: told how many were read."""
 
     def __init__(self, parts, progress):
-        self.parts, self.progress, self.names = parts, progress, {}
-        unit = None
-        for kind, content in sections(self.header()):
-            if kind == b'timescale':
-                unit = scale(content)
-        if unit is None:
-            raise Unreadable('it has no $timescale')
-        self.times = Times(Fraction(unit))
-        self.wires = list(wires(sections(self.header())))
+        self.parts, self.progress = parts, progress
+        head = self.header()
+        self.times, self.wires = Times(Fraction(scale(head))), list(wires(head))
 
     def header(self):
         """All up to $enddefinitions."""
@@ -41,7 +37,7 @@ class Vcd:
         raise Unreadable('it has no $enddefinitions: it is cut off, or no VCD')
 
     def texts(self):
-        """The part behind the header in pieces of whole lines without comments; notes the SHA-256 of all."""
+        """What is behind the header, without comments, in pieces that end before a line with a time; notes the SHA-256 of all."""
         digest, rest, begun, done = hashlib.sha256(), b'', False, 0
         for part in self.parts():
             digest.update(part)
@@ -49,89 +45,81 @@ class Vcd:
             self.progress(len(part))
             rest += part
             if not begun:
-                found = re.search(rb'\$enddefinitions\s+\$end\s', rest)
+                found = re.search(rb'\$enddefinitions\s+\$end\b', rest)
                 if not found:
                     continue
-                begun, rest = True, rest[found.end():]
-            cut = rest.rfind(b'\n') + 1
+                begun, rest = True, b'\n' + rest[found.end():]
+            cut = max(rest.rfind(b'\n#'), 0)
             text, rest = rest[:cut], rest[cut:]
             if b'$comment' in text:
                 text, open_ = uncommented(text)
                 rest = open_ + rest
-            if len(rest) > MOST + len(part):
-                raise Unreadable(f'it is no VCD: a line or comment of over {MOST} bytes ends at byte {done}')
+            if len(rest) > MOST:
+                raise Unreadable(f'it is no VCD: behind byte {done - len(rest)} no time comes')
             yield text
         self.digest = digest.hexdigest()
-        if rest.strip() or not begun:
-            raise Unreadable(f'it is cut off: its last line, at byte {done - len(rest)}, has no end')
+        text, open_ = uncommented(rest)
+        if not begun or open_ or not rest.endswith(b'\n'):
+            last = rest.rstrip(b'\n').rfind(b'\n') + 1
+            raise Unreadable(f'it is cut off: its last line, at byte {done - len(rest) + last}, has no end')
+        yield text
 
     def edges(self, pins):
         """Time and word of each rising edge. Afterwards changed is the last time at which a pin changed, end the last time there is, and twice
         how often a pin changed twice at one time, with the first such place."""
         turns = self.turns = Turns('CK_N' in pins.mapped, self.times)
-        self.changed, self.end, self.twice, self.first_twice = None, 0, 0, None
+        self.twice, self.first_twice = 0, None
         clocks = pins.clocks | pins.clocks << UNKNOWN
-        changes, vectors = tables(pins)
-        low, high, known = turns.low, turns.high, {}
-        word = before = start(pins)
-        clock, time, touched, block = word & clocks, 0, 0, False
+        others = ~clocks
+        low, high, changes = turns.low, turns.high, Changes(pins, self.times)
+        up, down = changes.alone(CLOCK) if pins.clocks == CLOCK else (b'', b'')
+        known, word, time, changed = changes.known, start(pins), -1, None
+        before, clock, touched = word, word & clocks, 0
         for text in self.texts():
-            tokens = iter(text.split())
-            for token in tokens:
-                change = changes.get(token)
-                if change is not None:
-                    mask, put = change
-                elif token[0] == HASH:
-                    now = moment(token)
-                    if now == time:
-                        continue
+            pieces = text.split(b'\n#')
+            if pieces[0].strip():  # before the first time
+                _, keep, put, _ = changes.of(pieces[0], 0)
+                word = word & keep | put
+                clock = word & clocks
+            for piece in pieces[1:]:
+                some = piece.split(None, 1)
+                try:
+                    now = int(some[0])
+                except (ValueError, IndexError):
+                    raise Unreadable(f'behind {self.times.told(time)} #{piece[:20].decode(errors="backslashreplace")} is no time') from None
+                if now != time:
                     if now < time:
                         raise Unreadable(f'its time goes back, from {self.times.told(time)} to {self.times.told(now)}')
-                    if word != before:
-                        state = word & clocks
-                        if state != clock:
-                            if state == high and clock == low:
-                                turns.seen = True
-                                yield time, before
-                            elif (state != low or clock != high) and turns.oddly(clock, state, time):
-                                yield time, before
-                            clock = state
-                        if (word ^ before) & ~clocks:
-                            self.changed = time
-                        before = word
-                    time, touched = now, 0
+                    before, time, touched = word, now, 0
+                if len(some) == 1:
                     continue
-                elif token[0] in b'bB':
-                    ident = next(tokens, None)
-                    if ident not in vectors:
-                        if ident is None:
-                            raise Unreadable(f'at {self.times.told(time)} a vector has no code behind it')
-                        continue
-                    mask = vectors[ident][0]
-                    put = known.get((token, ident))
-                    if put is None:
-                        if len(known) > 100000:
-                            known.clear()
-                        put = known[token, ident] = carried(token[1:], vectors[ident][1])
-                else:
-                    if token in DUMPS or token == b'$end':
-                        block, touched = token != b'$end', 0
-                    elif token[0] in b'rRsS':
-                        next(tokens, None)
-                    elif token[1:] in vectors:
-                        raise Unreadable(f'{token.decode(errors="backslashreplace")} at {self.times.told(time)} has no level')
+                if some[1] == up and clock == low and not touched:  # nothing but the clock, which is most of a capture
+                    yield now, before
+                    word, clock, touched, turns.seen = word | high, high, clocks, True
                     continue
-                if word & mask != put:
-                    if touched & mask:
-                        self.changed_twice(pins, mask, time)
-                    touched |= mask
-                    word = word & ~mask | put
-        if word & clocks != clock and turns.rises(clock, word & clocks, time):
-            yield time, before
-        if (word ^ before) & ~clocks:
-            self.changed = time
-        self.end = time
-        if block:
+                if some[1] == down and clock == high and not touched:
+                    word, clock, touched = word ^ high, low, clocks
+                    continue
+                seen, keep, put, doubled = known.get(some[1]) or changes.of(some[1], now)
+                after = word & keep | put
+                if doubled or touched and (after ^ word) & touched:
+                    self.changed_twice(pins, doubled | (after ^ word) & touched, now)
+                touched |= seen
+                if after == word:
+                    continue
+                state = after & clocks
+                if state != clock:
+                    if state == high and clock == low:
+                        turns.seen = True
+                        yield now, before
+                    elif (state != low or clock != high) and turns.oddly(clock, state, now):
+                        yield now, before
+                    clock = state
+                if (after ^ word) & others:
+                    changed = now
+                word = after
+        self.changed, self.end = changed, time
+        if changes.block:
             raise Unreadable(f'it is cut off: it ends within a $dump block at {self.times.told(time)}')
 
     def changed_twice(self, pins, mask, time):
@@ -143,78 +131,71 @@ class Vcd:
             self.first_twice = next(name for bit, name in pins.names.items() if bit & mask), self.times.told(time)
 
 
-def sections(text):
-    """Keyword and content of each section of the header."""
-    for found in re.finditer(rb'\$(\w+)\s+(.*?)\s*\$end\b', text, re.S):
-        yield found[1], found[2]
+class Changes:
+    """What texts of changes do to a word: the bits that they change, $dump blocks aside, those that they leave, what they put, and the bits that
+    they put twice.
 
+    known: short texts that come again and again. block: a $dump block is open."""
 
-def scale(content):
-    found = re.fullmatch(rb'(1|10|100)\s*(s|ms|us|ns|ps|fs)', content)
-    if not found:
-        raise Unreadable(f'its $timescale is {content.decode(errors="backslashreplace")}')
-    return int(found[1]) * UNITS[found[2]]
+    def __init__(self, pins, times):
+        self.known, self.block, self.scalars, self.vectors, self.times = {}, False, {}, {}, times
+        for code, places in pins.places.items():
+            bits = sum(bit for _, bit in places)
+            self.vectors[code] = bits | bits << UNKNOWN, places
+            if all(at == 0 for at, _ in places):
+                for level, put in ('0', 0), ('1', bits), ('x', bits << UNKNOWN):
+                    self.scalars |= {bytes([sign]) + code: (bits | bits << UNKNOWN, put) for sign in LEVELS[level]}
 
+    def alone(self, bit):
+        """The changes to 1 and to 0 of a scalar that carries this bit and no other; texts that never come where there is none."""
+        own = bit | bit << UNKNOWN
+        return [next((token for token, change in self.scalars.items() if change == (own, put)), b'') for put in (bit, 0)]
 
-def wires(found):
-    """The wires that the header declares, with their scopes."""
-    scopes = []
-    for kind, content in found:
-        if kind == b'scope':
-            scopes.append(printable(content.split()[-1]))
-        elif kind == b'upscope' and scopes:
-            scopes.pop()
-        elif kind == b'var':
-            words = content.split()
-            if len(words) >= 4 and words[0] not in NO_LEVELS:
-                yield wire(scopes, int(words[1]), words[2], b''.join(words[3:]))
+    def of(self, text, time):
+        mask = put = again = before = doubled = 0
+        tokens, scalars = iter(text.split()), self.scalars
+        for token in tokens:
+            change = scalars.get(token)
+            if change is None:
+                change = self.otherwise(token, tokens, time)
+                if change is None:
+                    continue
+                if change == BLOCK:
+                    before = mask
+                    continue
+            own, level = change
+            if mask & own:
+                if own & ~before and put & own != level:
+                    doubled |= own
+                put, again = put & ~own, again | own
+            mask, put = mask | own, put | level
+        found = mask & ~before | again, ~mask, put, doubled
+        if len(text) <= SHORT and b'$' not in text:
+            if len(self.known) >= KNOWN:
+                self.known.clear()
+            self.known[text] = found
+        return found
 
-
-def wire(scopes, size, ident, reference):
-    name, left, right = re.fullmatch(rb'(.*?)(?:\[(\d+)(?::(\d+))?\])?', reference, re.S).groups()
-    if left is None and size > 1:
-        left, right = size - 1, 0
-    elif left is not None:
-        left, right = int(left), int(right if right is not None else left)
-    return Wire('/'.join([*scopes, printable(name)]), ident, left, right)
-
-
-def printable(raw):
-    """A name in which nothing can hide."""
-    return ''.join(c if c.isprintable() else escaped(c) for c in raw.decode('utf-8', 'surrogateescape'))
-
-
-def moment(token):
-    try:
-        return int(token[1:])
-    except ValueError:
-        raise Unreadable(f'{token.decode(errors="backslashreplace")} is no time') from None
-
-
-def uncommented(text):
-    """The text without its comments, and the beginning of one that does not end in it."""
-    text = re.sub(rb'\$comment\s.*?\$end(?=\s)', b' ', text, flags=re.S)
-    at = text.find(b'$comment')
-    return (text, b'') if at < 0 else (text[:at], text[at:])
-
-
-def start(pins):
-    """Before any change each level that a wire carries is not known."""
-    carried_ = sum(bit for places in pins.places.values() for _, bit in places)
-    return pins.word | carried_ << UNKNOWN
-
-
-def tables(pins):
-    """For each scalar's change the bits that it concerns and what they become; for each code the same bits and their places."""
-    changes, vectors = {}, {}
-    for ident, places in pins.places.items():
-        bits = sum(bit for _, bit in places)
-        vectors[ident] = bits | bits << UNKNOWN, places
-        if all(at == 0 for at, _ in places):
-            for levels, put in (b'0lL', 0), (b'1hH', bits), (b'xXzZuUwW-', bits << UNKNOWN):
-                for level in levels:
-                    changes[bytes([level]) + ident] = bits | bits << UNKNOWN, put
-    return changes, vectors
+    def otherwise(self, token, tokens, time):
+        """A token that is no scalar's change: bits and levels of a vector, BLOCK at a $dump block's ends, None for what is nothing to us."""
+        if token[0] in b'bB':
+            code = next(tokens, None)
+            if code is None:
+                raise Unreadable(f'at {self.times.told(time)} a vector has no code behind it')
+            if code not in self.vectors:
+                return None
+            mask, places = self.vectors[code]
+            return mask, carried(token[1:], places)
+        if token in DUMPS or token == b'$end':
+            self.block = token != b'$end'
+            return BLOCK
+        if token[0] in b'rRsS':
+            next(tokens, None)
+        elif token[0] in b'#$':
+            raise Unreadable(f'at {self.times.told(time)} {token.decode(errors="backslashreplace")} does not begin a line, or is no part of a VCD')
+        elif token[1:] in self.vectors:
+            raise Unreadable(f'at {self.times.told(time)} {token.decode(errors="backslashreplace")} has no level')
+        return None
 
 
 def carried(value, places):
@@ -222,6 +203,13 @@ def carried(value, places):
     more = value[:1] if value[:1] in b'xXzZ' else b'0'
     put = 0
     for at, bit in places:
-        digit = value[-1 - at:len(value) - at] if at < len(value) else more
-        put |= bit if digit == b'1' else 0 if digit == b'0' else bit << UNKNOWN
+        digit = value[len(value) - 1 - at:len(value) - at] if at < len(value) else more
+        put |= bit if digit in LEVELS['1'] else 0 if digit in LEVELS['0'] else bit << UNKNOWN
     return put
+
+
+def uncommented(text):
+    """The text without its comments, and the beginning of one that does not end in it."""
+    text = re.sub(rb'\$comment\s.*?\$end(?=\s)', b' ', text, flags=re.S)
+    at = text.find(b'$comment')
+    return (text, b'') if at < 0 else (text[:at], text[at:])
