@@ -13,33 +13,35 @@ from vcd_head import UNITS, printable
 MOST = 1 << 20  # bytes of a line
 RATES = {b'Hz': 1, b'kHz': 10 ** 3, b'MHz': 10 ** 6, b'GHz': 10 ** 9, b'THz': 10 ** 12}
 FS = 10 ** 15
+WORDS = {b'seconds': b's', b'milliseconds': b'ms', b'microseconds': b'us', b'nanoseconds': b'ns', b'picoseconds': b'ps', b'femtoseconds': b'fs'}
 
 
 class Csv:
-    """A capture that can be read again and again. progress: told the bytes of each part."""
+    """A capture that can be read again and again. parts: gives its bytes from the start. progress: told how many were read."""
 
     def __init__(self, parts, progress):
-        self.parts, self.progress, self.turns = parts, (lambda count: None), None
-        channels, rate, unit = [], None, None
-        self.skipped = 0  # lines up to the first row of levels
+        self.parts, self.progress, self.skipped = parts, (lambda count: None), 0
+        channels, rate, cells = self.head()
+        headed = any(cell.lower() not in (b'0', b'1', b'x', b'z') for cell in cells)
+        self.skipped += headed  # lines up to the first row of levels
+        self.unit = time_unit(cells[0], rate) if headed else None
+        timed = int(self.unit is not None)
+        names = cells[timed:] if headed and set(cells[timed:]) != {b'logic'} else channels
+        if len(names) != len(cells) - timed:
+            raise Unreadable(f'it has {len(cells) - timed} columns, and {len(names)} names for them')
+        self.columns, self.wires, self.progress = len(cells), [wire(name, i + timed) for i, name in enumerate(names)], progress
+        self.times = Times(Fraction(1) if timed else Fraction(FS) / rate if rate else None)
+
+    def head(self):
+        """What the comments say, the channels' names and the samples a second, and the cells of the first line that is none."""
+        channels, rate = [], None
         for line in self.lines():
             if not line.startswith((b';', b'#')):
-                break
+                return channels, rate, [cell.strip().strip(b'"') for cell in line.split(b',')]
             self.skipped += 1
             channels = listed(line) or channels
             rate = sampled(line) or rate
-        else:
-            raise Unreadable('it has no row of levels')
-        cells = [cell.strip().strip(b'"') for cell in line.split(b',')]
-        headed = any(cell.lower() not in (b'0', b'1', b'x', b'z') for cell in cells)
-        self.skipped += headed
-        self.timed, unit = time_column(cells[0]) if headed else (False, None)
-        names = cells[self.timed:] if headed and set(cells[self.timed:]) != {b'logic'} else channels
-        if len(names) != len(cells) - self.timed:
-            raise Unreadable(f'it has {len(cells) - self.timed} columns, and {len(names)} names for them')
-        self.columns, self.wires, self.progress = len(cells), [wire(name, i + self.timed) for i, name in enumerate(names)], progress
-        self.times = Times(Fraction(1)) if self.timed else Times(Fraction(FS, rate) if rate else None)
-        self.unit = unit
+        raise Unreadable('it has no row of levels')
 
     def lines(self):
         """Line after line without its end; notes the SHA-256 of all."""
@@ -64,7 +66,7 @@ class Csv:
                 continue
             row += 1
             time, body = row, line
-            if self.timed:
+            if self.unit is not None:
                 stamp, _, body = line.partition(b',')
                 time = self.moment(stamp, number, self.end)
             self.end = time
@@ -76,7 +78,7 @@ class Csv:
         try:
             value = Decimal(stamp.decode('ascii'))
         except (InvalidOperation, UnicodeDecodeError):
-            raise Unreadable(f'line {number}: {stamp.decode(errors="backslashreplace")} is no time') from None
+            raise Unreadable(f'line {number}: {printable(stamp)[:40]} is no time') from None
         self.times.fine = max(1, int(self.unit * Decimal(10) ** value.as_tuple().exponent)) if self.times.fine == 1 else self.times.fine
         time = int(value * self.unit)
         if before is not None and time <= before:
@@ -91,7 +93,7 @@ class Csv:
         for column, levels in tables.items():
             level = levels.get(cells[column].strip())
             if level is None:
-                raise Unreadable(f'line {number}, column {column + 1}: {cells[column].decode(errors="backslashreplace")} is no level')
+                raise Unreadable(f'line {number}, column {column + 1}: {printable(cells[column])[:40]} is no level')
             word |= level
         return word
 
@@ -123,12 +125,14 @@ def sampled(line):
     return Fraction(found[1].decode()) * RATES[found[2]] if found and found[2] in RATES else None
 
 
-def time_column(cell):
-    """Whether the first column is the time, and its unit in fs."""
-    found = re.fullmatch(rb'(?:time\s*)?[\[(]?(s|ms|us|ns|ps|fs)?[\])]?', cell, re.I)
-    if not found or not cell:
-        return False, None
-    return True, UNITS[(found[1] or b's').lower()]
+def time_unit(cell, rate):
+    """The unit of the time column in fs, None where the first column is none. Where sigrok names the column and no unit, it is the largest of
+    s, ms, us.. that is no longer than a sample."""
+    found = re.fullmatch(rb'(time)?\s*[\[(]?(\w*)[\])]?', cell, re.I)
+    unit = {**UNITS, **{word: UNITS[name] for word, name in WORDS.items()}}.get(found[2].lower()) if found else None
+    if unit is not None or not found or not found[1] or found[2]:
+        return unit
+    return next(size for size in sorted(UNITS.values(), reverse=True) if size <= FS / rate) if rate else FS
 
 
 def wire(name, column):

@@ -32,7 +32,7 @@ class Dump:
         self.codes = dict(zip([CK, *names, *strings(layout)], CODES))
         self.bits = {at: self.codes[name].encode() for name, at in names.items()}
         self.rise, self.fall = (f'{level}{self.codes[CK]}\n'.encode() for level in '10')
-        self.known, self.edge, self.word, self.said, self.address = {}, 0, 0, {}, layout.mask('BA', 'A')
+        self.known, self.edge, self.word, self.said, self.address, self.drawn = {}, 0, 0, {}, layout.mask('BA', 'A'), 0
 
     def begin(self, remark, word):
         lines = ['$version manilaply $end', f'$comment {remark} $end', f'$timescale {self.unit} ps $end', '$scope module ddr3 $end']
@@ -67,11 +67,12 @@ class Dump:
         if apart_ > 1:
             self.write(b'#%d\n%b%b' % (fall, self.fall, self.pins(self.idle(), dict.fromkeys(names, '-'))))
             if self.gap is None or apart_ <= self.gap:
+                self.drawn += apart_ - 1
                 self.clock(self.edge + 1, edge - 1)
                 self.write(b'#%d\n%b' % ((edge - 1) * period, self.rise))
             fall = (edge - 1) * period + high
         self.write(b'#%d\n%b%b#%d\n%b' % (fall, self.fall, self.pins(word, names), edge * period, self.rise))
-        self.edge = edge
+        self.edge, self.drawn = edge, self.drawn + 1
 
     def clock(self, first, end):
         """The edges from the first up to the one before the end, each with its fall."""
@@ -121,7 +122,7 @@ def exported(wanted, judged):
         dump = Dump(file, layout, period_of(first), wanted.gap)
         draw(dump, read(wanted.files, layout), said, progress)
         size = file.tell()
-    return [f'{shown(wanted.out)}: {count} records up to edge {last}, {drawn} edges of the clock, {size} bytes']
+    return [f'{shown(wanted.out)}: {count} records up to edge {last}, {dump.drawn} edges of the clock, {size} bytes']
 
 
 def read(names, layout):
@@ -147,7 +148,7 @@ def draw(dump, found, said, progress):
     begun, none = False, dict.fromkeys(names, '-')
     for count, (edge, word) in enumerate(found):
         if not begun:
-            dump.begin(remark, layout.idle(word | layout.mask('CKE')))
+            dump.begin(remark, layout.idle(word | layout.cke))
             begun = True
             if edge > 1:
                 dump.put(1, dump.word | marked.pop(1, 0), none)  # edges are counted from the first that is drawn

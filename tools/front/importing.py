@@ -1,13 +1,12 @@
 """From a capture to a recording: read, written beside, read back and compared with the capture, and told."""
 
-import hashlib
 import os
 
 from clock import Edges
 from compared import Compared
 from csv_read import Csv
 from decode import behind_header, records
-from files import PART, Unreadable, parts, refuse_at_once, shown
+from files import PART, Unreadable, hashed, parts, refuse_at_once, shown
 from layout import BINS, EDITIONS, HEADER, header
 from pins import Pins, of_file
 from programs import Failed, answer, built
@@ -31,9 +30,10 @@ def imported(wanted):
         built(program)
     if wanted.period is not None:
         taken_header(wanted, 1, wanted.period)
+    mapped = mapping(wanted)
     try:
         capture = opened(name)
-        pins = Pins(mapping(wanted), capture.wires)
+        pins = Pins(mapped, capture.wires)
         with beside(wanted.out) as (file, place):
             return list(made(wanted, capture, pins, file, place))
     except Unreadable as error:
@@ -90,7 +90,7 @@ def made(wanted, capture, pins, file, place):
     yield f'  commands: {", ".join(counted(pins.layout, file, place)) or "none"}'
     yield '  read back and compared with the capture: the same at each edge'
     yield f'  SHA-256 of {shown(wanted.files[0])}: {digest}'
-    yield f'  SHA-256 of {shown(wanted.out)}: {hashed(file)}'
+    yield f'  SHA-256 of {shown(wanted.out)}: {hashed(pieces(file))}'
 
 
 def measured(clock):
@@ -110,13 +110,6 @@ def pieces(file):
     file.seek(0)
     while part := file.read(PART):
         yield part
-
-
-def hashed(file):
-    digest = hashlib.sha256()
-    for part in pieces(file):
-        digest.update(part)
-    return digest.hexdigest()
 
 
 def remarks(wanted, capture, pins, clock, sampler):

@@ -128,8 +128,9 @@ def judged(names):
     return found
 
 
-def writing(wanted):
-    from writing import wrote  # here, so that a plain verdict does not wait for what only these modes need
+def to_a_file(wanted):
+    """Loads what these modes need only here, so that a plain verdict does not wait for it."""
+    from writing import wrote
     some, outcome = wrote(wanted, lambda: judged(wanted.files))
     return text_of(some), OUTCOME[outcome]
 
@@ -156,7 +157,7 @@ def run(words):
     if wanted.mode == 'list':
         return listing(wanted)
     if wanted.mode in WRITES:
-        return writing(wanted)
+        return to_a_file(wanted)
     return judge(wanted.files)
 
 

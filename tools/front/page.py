@@ -1,11 +1,10 @@
 """A page for the auditor: report, picture and tables in one file of HTML that refers to nothing outside."""
 
 import datetime
-import hashlib
 import os
 from html import escape
 
-from files import parts, shown
+from files import hashed, parts, shown
 from identity import commit, kit
 from picture import picture
 from records import around
@@ -87,15 +86,8 @@ def files(said, names):
     rows = []
     for i, name in enumerate(names, 1):
         own = ' (begins with a header of its own)' if said[f'file{i}_headed'] == '1' else ''
-        rows.append([shown(name) + own, str(os.stat(name).st_size), said[f'file{i}_records'], said[f'file{i}_after_edge'], said[f'file{i}_to_edge'], hashed(name)])
+        rows.append([shown(name) + own, str(os.stat(name).st_size), said[f'file{i}_records'], said[f'file{i}_after_edge'], said[f'file{i}_to_edge'], hashed(parts(name))])
     return table(['file', 'bytes', 'records', 'after edge', 'up to edge', 'SHA-256'], rows, ' nnnnm')
-
-
-def hashed(name):
-    digest = hashlib.sha256()
-    for some in parts(name):
-        digest.update(some)
-    return digest.hexdigest()
 
 
 def commands(said):

@@ -21,7 +21,7 @@ def scale(text):
         if kind == b'timescale':
             found = re.fullmatch(rb'(1|10|100)\s*(s|ms|us|ns|ps|fs)', content)
             if not found:
-                raise Unreadable(f'its $timescale is {content.decode(errors="backslashreplace")}')
+                raise Unreadable(f'its $timescale is {printable(content)[:40]}')
             return int(found[1]) * UNITS[found[2]]
     raise Unreadable('it has no $timescale')
 

@@ -10,7 +10,7 @@ from fractions import Fraction
 from clock import Times, Turns
 from files import Unreadable
 from pins import CLOCK, UNKNOWN, start
-from vcd_head import scale, wires
+from vcd_head import printable, scale, wires
 
 MOST = 1 << 26  # bytes of the changes at one time, or of a comment
 KNOWN, SHORT = 1 << 12, 64  # so many texts of changes are kept, of so many bytes
@@ -86,7 +86,7 @@ class Vcd:
                 try:
                     now = int(some[0])
                 except (ValueError, IndexError):
-                    raise Unreadable(f'behind {self.times.told(time)} #{piece[:20].decode(errors="backslashreplace")} is no time') from None
+                    raise Unreadable(f'behind {self.times.told(max(time, 0))} #{printable(b"".join(some[:1]))[:40]} is no time') from None
                 if now != time:
                     if now < time:
                         raise Unreadable(f'its time goes back, from {self.times.told(time)} to {self.times.told(now)}')
@@ -192,9 +192,9 @@ class Changes:
         if token[0] in b'rRsS':
             next(tokens, None)
         elif token[0] in b'#$':
-            raise Unreadable(f'at {self.times.told(time)} {token.decode(errors="backslashreplace")} does not begin a line, or is no part of a VCD')
+            raise Unreadable(f'at {self.times.told(time)} {printable(token)[:40]} does not begin a line, or is no part of a VCD')
         elif token[1:] in self.vectors:
-            raise Unreadable(f'at {self.times.told(time)} {token.decode(errors="backslashreplace")} has no level')
+            raise Unreadable(f'at {self.times.told(time)} {printable(token)[:40]} has no level')
         return None
 
 
