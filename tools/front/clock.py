@@ -1,6 +1,6 @@
 """The clock of a capture: when it rises, and how far its edges are apart."""
 
-from files import Unreadable
+from files import Damaged
 from pins import CLOCK, CLOCK_N, UNKNOWN
 
 FS_A_PS = 1000
@@ -13,9 +13,8 @@ class Times:
         self.unit, self.fine = unit, fine
 
     def ps(self, time):
-        fs = time * self.unit
-        whole = fs / FS_A_PS
-        return f'{int(whole)} ps' if whole == int(whole) else f'{float(whole):.3f} ps'
+        ps = time * self.unit / FS_A_PS
+        return f'{int(ps)} ps' if ps == int(ps) else f'{float(ps):.3f} ps'
 
     def told(self, time):
         return f'row {time}' if self.unit is None else self.ps(time)
@@ -33,15 +32,12 @@ class Turns:
     def rises(self, before, after, time):
         """From the clock's levels before this time to those after it."""
         if before == self.low and after == self.high:
-            self.good, self.seen = after, True
+            self.seen = True
             return True
-        if before == self.high and after == self.low:
-            self.good = after
-            return False
-        return self.oddly(before, after, time)
+        return (before != self.high or after != self.low) and self.oddly(before, after, time)
 
     def oddly(self, before, after, time):
-        """Levels that are no clock's: x, z, or both of a pair alike. They are good for nothing but to come out of."""
+        """As rises, where levels are in it that are no clock's: x, z, or both of a pair alike. Raises where they may have hidden an edge."""
         if after not in (self.low, self.high):
             if before in (self.low, self.high):
                 self.good, self.astray, self.unknown = before, time, False
@@ -51,10 +47,9 @@ class Turns:
         if was is None or not self.seen and self.unknown:
             return False
         if self.unknown:
-            raise Unreadable(f'CK is x or z from {self.times.told(self.astray)} to {self.times.told(time)}: its edges between are not known')
+            raise Damaged(f'CK is x or z from {self.times.told(self.astray)} to {self.times.told(time)}: its edges between are not known')
         if was == after:
-            turned = 'rises' if after == self.low else 'falls'
-            raise Unreadable(f'CK and CK_N disagree from {self.times.told(self.astray)} to {self.times.told(time)}: one {turned} without the other')
+            raise Damaged(f'CK and CK_N disagree from {self.times.told(self.astray)} to {self.times.told(time)}: one turns without the other')
         self.skews, self.longest = self.skews + 1, max(self.longest, time - self.astray)
         self.seen = True
         return after == self.high
@@ -68,10 +63,10 @@ class Edges:
 
     def __init__(self, times, period, still):
         if still and times.unit is None:
-            raise Unreadable('it tells no time, and --still counts edges by time')
+            raise Damaged('it tells no time, and --still counts edges by time')
         self.times, self.still = times, still
         self.period = None if period is None or times.unit is None else period * FS_A_PS / times.unit
-        self.count = self.seen = self.missed = self.stops = self.stopped = 0
+        self.count = self.missed = self.stops = self.stopped = 0
         self.first = self.last = self.least = self.most = None
 
     def numbered(self, edges):
@@ -103,7 +98,8 @@ class Edges:
         self.most = place if self.most is None or apart > self.most[0] else self.most
         usual = self.least[0] + self.times.fine if self.period is None else self.period
         if self.times.unit is not None and self.most[0] - self.times.fine > 1.5 * usual:
-            raise Unreadable(f'the clock stops, or edges are missing: {self.place(self.most)}, {self.place(self.least)}')
+            against = self.place(self.least) if self.period is None else f'and the period is {self.times.ps(self.period)}'
+            raise Damaged(f'the clock stops, or edges are missing: {self.place(self.most)}, {against}')
         return 0
 
     def place(self, found):
@@ -113,14 +109,14 @@ class Edges:
     def ended(self, changed, end):
         """Looks behind the last edge: at the last change of a pin, and at the capture's end. How many edges are missing there."""
         if self.last is None:
-            raise Unreadable('CK never rises from 0 to 1')
+            raise Damaged('CK never rises from 0 to 1')
         usual = self.period or (self.most[0] if self.most else None)
         if usual is None or self.times.unit is None:
             return 0
         if self.still:
             return int((end - self.last) / usual)
         if changed is not None and changed - self.last - self.times.fine > 1.5 * usual:
-            raise Unreadable(f'the clock stops after edge {self.count} at {self.times.told(self.last)}, and pins change up to {self.times.told(changed)}')
+            raise Damaged(f'the clock stops after edge {self.count} at {self.times.told(self.last)}, and pins change up to {self.times.told(changed)}')
         return 0
 
     def mean(self):

@@ -11,9 +11,11 @@ class Compared:
 
     def __init__(self, found, layout, instead):
         self.found, self.layout, self.instead, self.held = found, layout, instead, None
+        self.edge = self.last = 0
         self.next()
 
     def next(self):
+        self.last = self.edge
         self.edge, self.word = next(self.found, (NEVER, 0))
 
     def levels(self, word):
@@ -39,6 +41,11 @@ class Compared:
             self.fillers_before(edge)
             quiet = self.at(edge, word)
         self.fillers_before(NEVER)
+
+    def ends(self, edge):
+        """Raises where the last record is not at this edge."""
+        if self.last != edge:
+            raise Failed(f'the capture ends at edge {edge}, and the recording at {self.last}; nothing was kept')
 
     def fillers_before(self, edge):
         """Records where the clock stood still, and behind its last edge."""

@@ -6,7 +6,7 @@ from decimal import Decimal, InvalidOperation
 from fractions import Fraction
 
 from clock import Times, Turns
-from files import Unreadable
+from files import Damaged
 from pins import UNKNOWN, Wire, start
 from vcd_head import UNITS, printable
 
@@ -28,9 +28,10 @@ class Csv:
         timed = int(self.unit is not None)
         names = cells[timed:] if headed and set(cells[timed:]) != {b'logic'} else channels
         if len(names) != len(cells) - timed:
-            raise Unreadable(f'it has {len(cells) - timed} columns, and {len(names)} names for them')
+            raise Damaged(f'it has {len(cells) - timed} columns, and {len(names)} names for them')
         self.columns, self.wires, self.progress = len(cells), [wire(name, i + timed) for i, name in enumerate(names)], progress
-        self.times = Times(Fraction(1) if timed else Fraction(FS) / rate if rate else None)
+        sample = Fraction(FS) / rate if rate else None
+        self.times = Times(Fraction(1), int(sample or 0)) if timed else Times(sample)
 
     def head(self):
         """What the comments say, the channels' names and the samples a second, and the cells of the first line that is none."""
@@ -41,7 +42,7 @@ class Csv:
             self.skipped += 1
             channels = listed(line) or channels
             rate = sampled(line) or rate
-        raise Unreadable('it has no row of levels')
+        raise Damaged('it has no row of levels')
 
     def lines(self):
         """Line after line without its end; notes the SHA-256 of all."""
@@ -52,11 +53,11 @@ class Csv:
             self.progress(len(part))
             *some, rest = (rest + part).split(b'\n')
             if len(rest) > MOST:
-                raise Unreadable(f'it is no CSV: a line of over {MOST} bytes ends at byte {done}')
+                raise Damaged(f'it is no CSV: a line of over {MOST} bytes ends at byte {done}')
             yield from some
         self.digest = digest.hexdigest()
         if rest.strip():
-            raise Unreadable(f'it is cut off: its last line, at byte {done - len(rest)}, has no end')
+            raise Damaged(f'it is cut off: its last line, at byte {done - len(rest)}, has no end')
 
     def rows(self, tables):
         """Time and word of each row that is not like the one before; notes the last row's time."""
@@ -78,22 +79,22 @@ class Csv:
         try:
             value = Decimal(stamp.decode('ascii'))
         except (InvalidOperation, UnicodeDecodeError):
-            raise Unreadable(f'line {number}: {printable(stamp)[:40]} is no time') from None
-        self.times.fine = max(1, int(self.unit * Decimal(10) ** value.as_tuple().exponent)) if self.times.fine == 1 else self.times.fine
+            raise Damaged(f'line {number}: {printable(stamp)[:40]} is no time') from None
+        self.times.fine = self.times.fine or int(self.unit * Decimal(10) ** value.as_tuple().exponent) or 1  # its last digit, where no rate is told
         time = int(value * self.unit)
         if before is not None and time <= before:
-            raise Unreadable(f'line {number}: its time, {self.times.told(time)}, is not after that of the row before, {self.times.told(before)}')
+            raise Damaged(f'line {number}: its time, {self.times.told(time)}, is not after that of the row before, {self.times.told(before)}')
         return time
 
     def word(self, line, number, tables):
         cells = line.split(b',')
         if len(cells) != self.columns:
-            raise Unreadable(f'line {number} has {len(cells)} cells, and the first row {self.columns}')
+            raise Damaged(f'line {number} has {len(cells)} cells, and the first row {self.columns}')
         word = 0
         for column, levels in tables.items():
             level = levels.get(cells[column].strip())
             if level is None:
-                raise Unreadable(f'line {number}, column {column + 1}: {printable(cells[column])[:40]} is no level')
+                raise Damaged(f'line {number}, column {column + 1}: {printable(cells[column])[:40]} is no level')
             word |= level
         return word
 

@@ -12,6 +12,10 @@ class Unreadable(Exception):
     """A file that cannot be judged, with the reason in words."""
 
 
+class Damaged(Unreadable):
+    """A capture that no recording can be made of, with the reason in words; whoever opened it adds its name."""
+
+
 def shown(name):
     """A file's name for a line of text: no name can make a line or hide what it is."""
     text = name.decode('utf-8', 'surrogateescape')

@@ -49,9 +49,12 @@ def header(edition, bin_, density, width, hot, period):
     return (edition << FIRST_BITS | bin_ << 42 | density << 41 | width << 40 | hot << 39 | period << 24).to_bytes(HEADER, 'big')
 
 
+def as_first_edition(first):
+    return bytes([first[0] & 15 | 1 << 4]) + first[1:]
+
+
 def edition_of(first):
-    """The edition that a header's first byte names, whether there is one or not."""
-    return first[0] >> 4 if first else 0
+    return first[0] >> 4
 
 
 def period_of(first):

@@ -4,7 +4,7 @@ A sampled word has the record's bits in their places, the clock above them, and 
 
 import re
 
-from files import Unreadable
+from files import Damaged, Unreadable
 from layout import EDITIONS
 
 CLOCK, CLOCK_N = 1 << 40, 1 << 41
@@ -67,16 +67,16 @@ class Pins:
         self.layout = EDITIONS[2 if any(name in mapped for name in WIDER) else 1]
         self.places, self.word, self.names, self.zeros = {}, 0, {}, []
         self.clocks = CLOCK | (CLOCK_N if 'CK_N' in mapped else 0)
-        self.one('CK', CLOCK)
+        self.carry('CK', CLOCK, self.place('CK'))
         if 'CK_N' in mapped:
-            self.one('CK_N', CLOCK_N)
+            self.carry('CK_N', CLOCK_N, self.place('CK_N'))
         for name, (low, count) in self.layout.pins.items():
             if name in LEAST:
                 self.bus(name, low, count)
             elif name in IDLE and name not in mapped:
                 self.word |= IDLE[name] << low
             else:
-                self.one(name, 1 << low)
+                self.carry(name, 1 << low, self.place(name))
 
     def carry(self, name, bit, place):
         """The bit is carried by this place, which is a key and a place from the right, or is a level."""
@@ -87,37 +87,27 @@ class Pins:
         self.places.setdefault(key, []).append((at, bit))
         self.names[bit] = name
 
-    def one(self, name, bit):
+    def place(self, name):
+        """The one place that carries this pin."""
         wire = self.mapped.get(name, name)
         found = [LEVELS[wire]] if wire in LEVELS else list(self.sought(name, wire).values())
-        if not found:
-            raise Unreadable(self.missing(name, wire))
-        if len(found) > 1:
-            raise Unreadable(f'{name} wants one wire, and {wire} has {len(found)}: name one, as {name}={wire}[0]')
-        self.carry(name, bit, found[0])
+        if len(found) != 1:
+            raise Damaged(f'{name} wants one wire, and {wire} has {len(found)}: name one, as {name}={wire}[0]' if found else self.missing(name, wire))
+        return found[0]
 
     def bus(self, name, low, count):
         """A bus as a vector, as wires with numbers, or bit by bit."""
-        wire, found = self.mapped.get(name, name), {}
-        if wire in LEVELS:
-            found = dict.fromkeys(range(count), LEVELS[wire])
-        else:
-            bits = self.sought(name, wire)
-            if bits and sorted(bits) != list(range(min(bits), max(bits) + 1)):
-                raise Unreadable(f'{name}: of {wire} there are {", ".join(map(str, sorted(bits)))}, and some are missing between')
-            found = {index - min(bits): place for index, place in bits.items()}
-        for i in range(count):
-            own = self.mapped.get(f'{name}{i}')
-            if own:
-                places = [LEVELS[own]] if own in LEVELS else list(self.sought(f'{name}{i}', own).values())
-                if len(places) != 1:
-                    raise Unreadable(self.missing(f'{name}{i}', own) if not places else f'{name}{i} wants one wire, and {own} has {len(places)}')
-                found[i] = places[0]
-        if not found or name in self.mapped and not any(i in found for i in range(count)):
-            raise Unreadable(self.missing(name, wire))
-        lacking = [i for i in range(LEAST[name]) if i not in found]
+        wire = self.mapped.get(name, name)
+        bits = dict.fromkeys(range(count), LEVELS[wire]) if wire in LEVELS else self.sought(name, wire)
+        if bits and sorted(bits) != list(range(min(bits), max(bits) + 1)):
+            raise Damaged(f'{name}: of {wire} there are {", ".join(map(str, sorted(bits)))}, and some are missing between')
+        found = {index - min(bits): place for index, place in bits.items()}
+        found |= {i: self.place(f'{name}{i}') for i in range(count) if f'{name}{i}' in self.mapped}
+        if not found or name in self.mapped and not bits:
+            raise Damaged(self.missing(name, wire))
+        lacking = [f': {name}{i} is missing' for i in range(LEAST[name]) if i not in found]
         if lacking or max(found) >= count:
-            raise Unreadable(f'{name} wants {LEAST[name]} to {count} wires, and {wire} gives {len(found)}' + (f': {name}{lacking[0]} is missing' if lacking else ''))
+            raise Damaged(f'{name} wants {LEAST[name]} to {count} wires, and {wire} gives {len(found)}{"".join(lacking[:1])}')
         for i, place in found.items():
             self.carry(f'{name}{i}', 1 << low + i, place)
         self.zeros += [f'{name}{i}' for i in range(count) if i not in found]
@@ -129,14 +119,14 @@ class Pins:
         if not named and name in LEAST and not select:
             named = self.numbered(text)
         if len({tuple(sorted(bits.items())) for bits in named.values()}) > 1:
-            raise Unreadable(f'{name}: {wire} may be any of {", ".join(sorted(named))}')
+            raise Damaged(f'{name}: {wire} may be any of {some(sorted(named))}')
         bits = next(iter(named.values()), {})
         if not select or not bits:
             return bits
         first, _, last = select.partition(':')
         wanted = range(min(int(first), int(last or first)), max(int(first), int(last or first)) + 1)
         if any(index not in bits for index in wanted):
-            raise Unreadable(f'{name}: {wire} is not there; {text} has {min(bits)} to {max(bits)}')
+            raise Damaged(f'{name}: {wire} is not there; {text} has {min(bits)} to {max(bits)}')
         return {index: bits[index] for index in wanted}
 
     def by_name(self, text, fold):
@@ -152,7 +142,7 @@ class Pins:
         """Single wires whose names are this one and a number, as A0, A_0 or A.0, by their number."""
         found = {}
         for wire in self.wires:
-            own = re.fullmatch(rf'(.*?)[._]?(\d+)', wire.name)
+            own = re.fullmatch(r'(.*?)[._]?(\d+)', wire.name)
             if own and wire.left is None and (own[1].lower() == text.lower() or own[1].lower().endswith('/' + text.lower())):
                 found.setdefault(own[1], {})[int(own[2])] = (wire.key, 0)
         return found
@@ -160,8 +150,11 @@ class Pins:
     def missing(self, name, wire):
         last = wire.lower().replace('.', '/').split('/')[-1].split('[')[0]
         near = [own.name for own in self.wires if last in own.name.lower()] or [own.name for own in self.wires]
-        some = ', '.join(dict.fromkeys(near[:12])) + (', ..' if len(near) > 12 else '')
-        return f'{name}: there is no wire {wire} in the capture (--pin {name}=WIRE maps it); it has {some or "none"}'
+        return f'{name}: there is no wire {wire} in the capture (--pin {name}=WIRE maps it); it has {some(list(dict.fromkeys(near))) or "none"}'
+
+
+def some(names):
+    return ', '.join(names[:12]) + (f' and {len(names) - 12} more' if len(names) > 12 else '')
 
 
 def start(pins):

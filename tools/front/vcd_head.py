@@ -2,7 +2,7 @@
 
 import re
 
-from files import Unreadable, escaped
+from files import Damaged, escaped
 from pins import Wire
 
 UNITS = {b's': 10 ** 15, b'ms': 10 ** 12, b'us': 10 ** 9, b'ns': 10 ** 6, b'ps': 10 ** 3, b'fs': 1}  # in fs
@@ -21,9 +21,9 @@ def scale(text):
         if kind == b'timescale':
             found = re.fullmatch(rb'(1|10|100)\s*(s|ms|us|ns|ps|fs)', content)
             if not found:
-                raise Unreadable(f'its $timescale is {printable(content)[:40]}')
+                raise Damaged(f'its $timescale is {printable(content)[:40]}')
             return int(found[1]) * UNITS[found[2]]
-    raise Unreadable('it has no $timescale')
+    raise Damaged('it has no $timescale')
 
 
 def wires(text):

@@ -8,7 +8,7 @@ import re
 from fractions import Fraction
 
 from clock import Times, Turns
-from files import Unreadable
+from files import Damaged
 from pins import CLOCK, UNKNOWN, start
 from vcd_head import printable, scale, wires
 
@@ -34,7 +34,7 @@ class Vcd:
             text += part
             if b'$enddefinitions' in text:
                 return text[:text.index(b'$enddefinitions')]
-        raise Unreadable('it has no $enddefinitions: it is cut off, or no VCD')
+        raise Damaged('it has no $enddefinitions: it is cut off, or no VCD')
 
     def texts(self):
         """What is behind the header, without comments, in pieces that end before a line with a time; notes the SHA-256 of all."""
@@ -55,13 +55,13 @@ class Vcd:
                 text, open_ = uncommented(text)
                 rest = open_ + rest
             if len(rest) > MOST:
-                raise Unreadable(f'it is no VCD: behind byte {done - len(rest)} no time comes')
+                raise Damaged(f'it is no VCD: behind byte {done - len(rest)} no time comes')
             yield text
         self.digest = digest.hexdigest()
         text, open_ = uncommented(rest)
         if not begun or open_ or not rest.endswith(b'\n'):
             last = rest.rstrip(b'\n').rfind(b'\n') + 1
-            raise Unreadable(f'it is cut off: its last line, at byte {done - len(rest) + last}, has no end')
+            raise Damaged(f'it is cut off: its last line, at byte {done - len(rest) + last}, has no end')
         yield text
 
     def edges(self, pins):
@@ -86,10 +86,10 @@ class Vcd:
                 try:
                     now = int(some[0])
                 except (ValueError, IndexError):
-                    raise Unreadable(f'behind {self.times.told(max(time, 0))} #{printable(b"".join(some[:1]))[:40]} is no time') from None
+                    raise Damaged(f'behind {self.times.told(max(time, 0))} #{printable(b"".join(some[:1]))[:40]} is no time') from None
                 if now != time:
                     if now < time:
-                        raise Unreadable(f'its time goes back, from {self.times.told(time)} to {self.times.told(now)}')
+                        raise Damaged(f'its time goes back, from {self.times.told(time)} to {self.times.told(now)}')
                     before, time, touched = word, now, 0
                 if len(some) == 1:
                     continue
@@ -120,12 +120,12 @@ class Vcd:
                 word = after
         self.changed, self.end = changed, time
         if changes.block:
-            raise Unreadable(f'it is cut off: it ends within a $dump block at {self.times.told(time)}')
+            raise Damaged(f'it is cut off: it ends within a $dump block at {self.times.told(time)}')
 
     def changed_twice(self, pins, mask, time):
         """Of the clock it is an error; of another pin the last level counts, and it is told."""
         if mask & pins.clocks:
-            raise Unreadable(f'CK changes twice at one time, {self.times.told(time)}')
+            raise Damaged(f'CK changes twice at one time, {self.times.told(time)}')
         self.twice += 1
         if not self.first_twice:
             self.first_twice = next(name for bit, name in pins.names.items() if bit & mask), self.times.told(time)
@@ -181,7 +181,7 @@ class Changes:
         if token[0] in b'bB':
             code = next(tokens, None)
             if code is None:
-                raise Unreadable(f'at {self.times.told(time)} a vector has no code behind it')
+                raise Damaged(f'at {self.times.told(time)} a vector has no code behind it')
             if code not in self.vectors:
                 return None
             mask, places = self.vectors[code]
@@ -192,9 +192,9 @@ class Changes:
         if token[0] in b'rRsS':
             next(tokens, None)
         elif token[0] in b'#$':
-            raise Unreadable(f'at {self.times.told(time)} {printable(token)[:40]} does not begin a line, or is no part of a VCD')
+            raise Damaged(f'at {self.times.told(time)} {printable(token)[:40]} does not begin a line, or is no part of a VCD')
         elif token[1:] in self.vectors:
-            raise Unreadable(f'at {self.times.told(time)} {printable(token)[:40]} has no level')
+            raise Damaged(f'at {self.times.told(time)} {printable(token)[:40]} has no level')
         return None
 
 

@@ -6,7 +6,7 @@ from files import shown
 from importing import imported
 from page import page
 from picture import picture
-from written import apart, beside
+from written import beside, refuse_over
 
 
 def wrote(wanted, judged):
@@ -15,7 +15,7 @@ def wrote(wanted, judged):
         return imported(wanted), 'clean'
     if wanted.mode == 'export':
         return exported(wanted, judged), 'clean'
-    apart(wanted.out, wanted.files)
+    refuse_over(wanted.out, wanted.files)
     found = judged()
     text = (picture if wanted.mode == 'picture' else page)(found, wanted.files)
     with beside(wanted.out) as (file, _):

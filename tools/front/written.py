@@ -29,7 +29,7 @@ def beside(name):
         raise
 
 
-def apart(name, others):
+def refuse_over(name, others):
     """Raises where what is to be written is one of the files that are read."""
     for other in others:
         if os.path.exists(name) and os.path.exists(other) and os.path.samefile(name, other):
