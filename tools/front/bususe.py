@@ -10,6 +10,8 @@ BARS = 120
 KINDS = {'RD, RDA, WR, WRA': ('dark', {'RD', 'RDA', 'WR', 'WRA'}), 'ACT, PRE, PREA': ('hatched', {'ACT', 'PRE', 'PREA'}), 'other commands': ('white', None)}
 NOTHING = {'NOP', 'DES', 'IGNORED'}
 LIMIT = 8
+REMARK = ('Drawn by ./judge --picture. The verdict is the proved program\'s. The curves are not proved; their sums come to the counts and to the debt '
+          'at the end that the proved program tells.')
 LEFT, WIDTH, RIGHT, TALL = 92, 840, 48, 200
 UNITS = [(10 ** 12, 's'), (10 ** 9, 'ms'), (10 ** 6, 'us'), (10 ** 3, 'ns')]
 
@@ -84,8 +86,7 @@ def bus_use(said, names, heading, inline):
         y = sheet.lines('head' if i == 0 else '', 24, y, words, 18 if i == 0 else 12)
     y = commands(sheet, use, said, y + 24)
     y = debts(sheet, use, said, y + 44)
-    y = sheet.lines('small faint', 24, y + 30, 'Drawn by ./judge --picture. The verdict is the proved program\'s. The curves are not proved; their sums come to the counts and to the '
-                    'debt at the end that the proved program tells.', 11)
+    y = sheet.lines('small faint', 24, y + 30, REMARK, 11)
     return sheet.svg('; '.join(heading), y + 6, inline)
 
 

@@ -57,20 +57,17 @@ class Compared:
     def at(self, edge, word):
         """At an edge of the capture; the word, where nothing happens at it."""
         own = self.levels(word)
-        if edge == self.edge and self.filler():
-            self.next()
-            silent = True
-        else:
-            silent = edge != self.edge
-        if silent:
-            if not self.idle(own) or (own ^ self.held) & self.layout.kept:
+        if edge == self.edge and not self.filler():
+            if own != self.word:
                 self.differs(edge, own)
-            return word
-        if own != self.word:
+            self.held = own
+            self.next()
+            return None
+        if not self.idle(own) or (own ^ self.held) & self.layout.kept:
             self.differs(edge, own)
-        self.held = own
-        self.next()
-        return None
+        if edge == self.edge:
+            self.next()
+        return word
 
     def differs(self, edge, own):
         raise Failed(f'at edge {edge} the capture has {own:x}, and the recording at {self.edge} {self.word:x}; nothing was kept')

@@ -27,8 +27,10 @@ STYLE = '''
 '''
 
 PATTERNS = '''<defs>
-<pattern id="mp-hatch" width="6" height="6" patternUnits="userSpaceOnUse" patternTransform="rotate(45)"><rect width="6" height="6" fill="#fbe3d3"/><line x1="0" y1="0" x2="0" y2="6" stroke="#b34700" stroke-width="1.6"/></pattern>
-<pattern id="mp-dots" width="7" height="7" patternUnits="userSpaceOnUse"><rect width="7" height="7" fill="#dbeaf5"/><circle cx="2" cy="2" r="1.2" fill="#00507d"/></pattern>
+<pattern id="mp-hatch" width="6" height="6" patternUnits="userSpaceOnUse" patternTransform="rotate(45)">
+<rect width="6" height="6" fill="#fbe3d3"/><line x1="0" y1="0" x2="0" y2="6" stroke="#b34700" stroke-width="1.6"/></pattern>
+<pattern id="mp-dots" width="7" height="7" patternUnits="userSpaceOnUse">
+<rect width="7" height="7" fill="#dbeaf5"/><circle cx="2" cy="2" r="1.2" fill="#00507d"/></pattern>
 </defs>'''
 
 
@@ -71,10 +73,11 @@ class Sheet:
 
     def svg(self, title, height, inline=False):
         """The whole; inline: as a part of a page of HTML."""
-        name = '' if inline else ' xmlns="http://www.w3.org/2000/svg"'
-        first = '' if inline else '<?xml version="1.0" encoding="UTF-8"?>\n'
-        return (f'{first}<svg{name} class="mp" role="img" width="{number(self.width)}" height="{number(height)}" viewBox="0 0 {number(self.width)} {number(height)}">\n'
-                f'<title>{escape(title)}</title>\n<style>{STYLE}</style>\n{PATTERNS}\n<rect width="100%" height="100%" fill="#fff"/>\n' + '\n'.join(self.parts) + '\n</svg>\n')
+        first, space = ('', '') if inline else ('<?xml version="1.0" encoding="UTF-8"?>\n', ' xmlns="http://www.w3.org/2000/svg"')
+        size = number(self.width), number(height)
+        head = f'<svg{space} class="mp" role="img" width="{size[0]}" height="{size[1]}" viewBox="0 0 {size[0]} {size[1]}">'
+        ground = '<rect width="100%" height="100%" fill="#fff"/>'
+        return first + '\n'.join([head, f'<title>{escape(title)}</title>', f'<style>{STYLE}</style>', PATTERNS, ground, *self.parts, '</svg>', ''])
 
 
 def number(value):

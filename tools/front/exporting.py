@@ -28,7 +28,8 @@ def exported(wanted, judged):
         refuse_unjudged(wanted.files, first, layout)
     count, last, drawn = measured(read(wanted.files, layout), wanted.gap)
     if drawn > DRAWN_MOST:
-        raise Unreadable(f'{shown(wanted.files[0])}: {drawn} edges of the clock are too many to draw, more than {DRAWN_MOST}; --gap N draws none where a gap is longer than N')
+        raise Unreadable(f'{shown(wanted.files[0])}: {drawn} edges of the clock are more than the {DRAWN_MOST} that are drawn at most; '
+                         '--gap N leaves it out in gaps of more than N edges')
     with beside(wanted.out) as (file, _):
         dump = Dump(file, layout, period_of(first), wanted.gap)
         draw(dump, read(wanted.files, layout), said, Progress(shown(wanted.out), count * layout.size))

@@ -13,7 +13,8 @@ from sums import SHOWN
 from values import listed
 
 STYLE = '''
-body { font-family: "DejaVu Sans", Verdana, Arial, sans-serif; font-size: 14px; line-height: 1.4; color: #000; background: #fff; max-width: 1100px; margin: 24px auto; padding: 0 16px; }
+body { font-family: "DejaVu Sans", Verdana, Arial, sans-serif; font-size: 14px; line-height: 1.4; color: #000; background: #fff; }
+body { max-width: 1100px; margin: 24px auto; padding: 0 16px; }
 h1 { font-size: 22px; }
 h2 { font-size: 17px; margin-top: 28px; border-bottom: 1px solid #000; }
 pre { white-space: pre-wrap; overflow-wrap: anywhere; font-size: 12px; border: 1px solid #999; padding: 8px; }
@@ -39,8 +40,10 @@ svg { max-width: 100%; height: auto; }
 }
 '''
 
-PROVED = 'The verdict, the records that it names, counts, clocks, banks, registers and debt: they are answers of programs whose proofs the kit named here has checked.'
-UNPROVED = 'Layout, words, picture and this page; and, where the recording was imported from a capture, that import, which read the recording back and compared it with the capture.'
+PROVED = ('The verdict, the records that it names, counts, clocks, banks, registers and debt: they are answers of programs whose proofs the kit named '
+          'here has checked.')
+UNPROVED = ('Layout, words, picture and this page; and, where the recording was imported from a capture, that import, which read the recording back and '
+            'compared it with the capture.')
 
 
 def page(said, names):
@@ -56,10 +59,12 @@ def page(said, names):
         'Commands': commands(said),
         'The part\'s times in clocks': times(said),
         'Just before the broken edge' if broken else 'At the end': ending(said),
-        'Where this comes from': table([], [['Written', now], ['Sources', f'manilaply {commit()}'], ['Kit', kit()], ['Proved', PROVED], ['Not proved', UNPROVED]]),
+        'Where this comes from': table([], [['Written', now], ['Sources', f'manilaply {commit()}'], ['Kit', kit()], ['Proved', PROVED],
+                                            ['Not proved', UNPROVED]]),
     }
     body = ''.join(f'<h2>{escape(title)}</h2>\n{content}\n' for title, content in chapters.items())
-    lot = table([], [['Part', part(said).removeprefix('Part: ')], ['Recording', f'{said["count_all"]} records in {len(names)} file{"s" * (len(names) > 1)}'], ['Written', now]])
+    recording = f'{said["count_all"]} records in {len(names)} file{"s" * (len(names) > 1)}'
+    lot = table([], [['Part', part(said).removeprefix('Part: ')], ['Recording', recording], ['Written', now]])
     return (f'<!DOCTYPE html>\n<html lang="en">\n<head>\n<meta charset="utf-8">\n<title>{escape(lines[0])}</title>\n<style>{STYLE}</style>\n</head>\n<body>\n'
             f'<h1>Report on a DDR3 command recording</h1>\n<p class="verdict">{escape(lines[0])}</p>\n{lot}\n{body}</body>\n</html>\n')
 
@@ -70,14 +75,17 @@ def table(heads, rows, kinds='', marked=()):
         kind = f' class="{kinds[i]}"' if kinds[i:i + 1].strip() else ''
         return f'<td{kind}>{escape(words)}</td>'
     head = '<thead><tr>' + ''.join(f'<th>{escape(name)}</th>' for name in heads) + '</tr></thead>\n' if heads else ''
-    lines = [f'<tr{" class=" + chr(34) + "mark" + chr(34) if i in marked else ""}>' + ''.join(cell(j, words) for j, words in enumerate(row)) + '</tr>\n' for i, row in enumerate(rows)]
+    lines = []
+    for i, row in enumerate(rows):
+        mark = ' class="mark"' if i in marked else ''
+        lines.append(f'<tr{mark}>' + ''.join(cell(j, words) for j, words in enumerate(row)) + '</tr>\n')
     return f'<table>\n{head}<tbody>\n{"".join(lines)}</tbody>\n</table>'
 
 
 def records(said, names):
     found = listed(names, *around(said))
-    rows = [[str(r['number']), r['edge'], ns(said, r['edge'])[:-3], f'{r["cke_before"]} {r["cke"]}', f'{int(r["pins"]):04b}', r['command'], r['bank'], r['address'],
-             hexed(r['bytes']), f'{shown(names[int(r["file"]) - 1])}:0x{int(r["byte"]):x}'] for r in found]
+    rows = [[str(r['number']), r['edge'], ns(said, r['edge'])[:-3], f'{r["cke_before"]} {r["cke"]}', f'{int(r["pins"]):04b}', r['command'], r['bank'],
+             r['address'], hexed(r['bytes']), f'{shown(names[int(r["file"]) - 1])}:0x{int(r["byte"]):x}'] for r in found]
     marked = [i for i, r in enumerate(found) if said['outcome'] == 'broken' and str(r['number']) in (said['record'], said['partner'])]
     return table(['record', 'edge', 'ns', 'CKE before, now', 'pins', 'command', 'BA', 'A', 'bytes', 'file and byte'], rows, 'nnnmm nmm', marked)
 
@@ -86,7 +94,8 @@ def files(said, names):
     rows = []
     for i, name in enumerate(names, 1):
         own = ' (begins with a header of its own)' if said[f'file{i}_headed'] == '1' else ''
-        rows.append([shown(name) + own, str(os.stat(name).st_size), said[f'file{i}_records'], said[f'file{i}_after_edge'], said[f'file{i}_to_edge'], hashed(parts(name))])
+        counts = [said[f'file{i}_{what}'] for what in ('records', 'after_edge', 'to_edge')]
+        rows.append([shown(name) + own, str(os.stat(name).st_size), *counts, hashed(parts(name))])
     return table(['file', 'bytes', 'records', 'after edge', 'up to edge', 'SHA-256'], rows, ' nnnnm')
 
 
@@ -95,7 +104,8 @@ def commands(said):
     for key, levels in said.items():
         if key.startswith('levels_'):
             name, pattern = key[7:].rsplit('_', 1)
-            rows.append([name, ' '.join(levels[:2]), levels[2], ' '.join(levels[3:7]), levels[7], said[f'count_{name}'] if pattern == '1' else '', said[f'meaning_{name}']])
+            count = said[f'count_{name}'] if pattern == '1' else ''
+            rows.append([name, ' '.join(levels[:2]), levels[2], ' '.join(levels[3:7]), levels[7], count, said[f'meaning_{name}']])
     rows.append(['all', '', '', '', '', said['count_all'], ''])
     return table(['command', 'CKE before, now', 'asleep', 'CS RAS CAS WE', 'A10', 'records', 'meaning'], rows, ' mmmmn')
 
@@ -108,6 +118,9 @@ def times(said):
 
 def ending(said):
     banks = [[str(i), said[f'bank{i}'], said.get(f'bank{i}_row', ''), said.get(f'bank{i}_act_edge', '')] for i in range(8)]
-    registers = [[f'MR{i}', said.get(f'mr{i}', 'not written'), ', '.join(f'{key[4:]} {value}' for key, value in said.items() if key.startswith(f'mr{i}_'))] for i in range(4)]
+    registers = []
+    for i in range(4):
+        fields = ', '.join(f'{key[4:]} {value}' for key, value in said.items() if key.startswith(f'mr{i}_'))
+        registers.append([f'MR{i}', said.get(f'mr{i}', 'not written'), fields])
     registers.append(['Refresh debt', debt(int(said['debt'])), ''])
     return f'<div class="side">{table(["bank", "state", "row", "ACT at edge"], banks, "n mn")}{table(["register", "code", "fields"], registers, " m")}</div>'

@@ -15,6 +15,7 @@ WIRES = {'CK': 34, 'CKE': 34}
 BUSES = {'command': 38, 'BA': 34, 'A': 34}
 HIGH, LOW = 7, 27  # of a wire's lane
 ADDRESSED = BANKED | {'MRS', 'PREA', 'ZQCL', 'ZQCS'}
+REMARK = 'Drawn by ./judge --picture. Verdict, records and numbers are the proved program\'s; the drawing itself is not proved.'
 SHORT = {'FORBIDDEN': 'CKE !', 'IGNORED': 'low'}
 
 
@@ -69,7 +70,7 @@ class Drawing:
         for words in list(broken(self.said, shown(self.names[-1])))[1:]:  # the heading has the first
             for line in words.split('\n'):
                 y = sheet.lines('', MARGIN, y, line)
-        y = sheet.lines('small faint', MARGIN, y + 8, 'Drawn by ./judge --picture. Verdict, records and numbers are the proved program\'s; the drawing itself is not proved.', 11)
+        y = sheet.lines('small faint', MARGIN, y + 8, REMARK, 11)
         return sheet.svg('; '.join(head), y + 4, inline)
 
     def marks(self):
@@ -77,7 +78,8 @@ class Drawing:
         what = self.what
         if what.partner:
             yield self.at[what.partner_edge], 'dotted', f'earlier record {what.partner}', 'end'
-        yield self.at[what.edge], 'hatched', f'record {what.number} breaks rule {what.rule}' if what.number else f'rule {what.rule} is broken at this edge', 'start'
+        words = f'record {what.number} breaks rule {what.rule}' if what.number else f'rule {what.rule} is broken at this edge'
+        yield self.at[what.edge], 'hatched', words, 'start'
 
     def bands(self):
         for slot, name, words, anchor in self.marks():
