@@ -5,10 +5,10 @@ from bususe import bus_use
 from drawing import BOLD, WIDE, Sheet
 from files import shown
 from report import broken, ns, part
-from slots import Break
+from slots import fitting
 from words import NAMES, RULES
 
-GUTTER, MARGIN, LEAST = 92, 24, 980
+GUTTER, MARGIN, GAP, LEAST = 92, 24, 5, 980
 LABELS = {'label': 22}
 RULERS = {'edge': 16, 'ns': 16, 'record': 22}
 WIRES = {'CK': 34, 'CKE': 34}
@@ -47,8 +47,9 @@ class Drawing:
     """A break, lane by lane. tops: where each lane begins."""
 
     def __init__(self, said, names):
-        self.said, self.names, self.what = said, names, Break(said, names)
-        self.slots, x = self.what.slots(), GUTTER
+        self.said, self.names = said, names
+        self.what, self.slots = fitting(said, names)
+        x = GUTTER
         for slot in self.slots:
             slot.x, x = x, x + slot.width
         self.right = x
@@ -85,7 +86,8 @@ class Drawing:
         for slot, name, words, anchor in self.marks():
             top = self.tops['label'] + 14
             self.sheet.rect(name, slot.x, top, slot.width, self.bottom + 4 - top)
-            self.sheet.text('strong', slot.x if anchor == 'start' else max(slot.right, 8 + len(words) * 12 * BOLD), top - 4, words, anchor)
+            x = slot.x + GAP if anchor == 'start' else max(slot.right - GAP, len(words) * 12 * BOLD)
+            self.sheet.text('strong', x, top - 4, words, anchor)
 
     def rulers(self):
         for lane in RULERS:
@@ -155,7 +157,8 @@ class Drawing:
                 self.sheet.path('thin', [(x + 2, top), (x - 14, bottom)])
                 self.sheet.path('thin', [(x + 14, top), (x - 2, bottom)])
                 self.sheet.text('small', x, self.tops['ns'] + 8, f'{slot.edges} edges', 'middle')
-                self.sheet.text('small', x, self.tops['record'] + 6, f'with {slot.records} records' if slot.records else 'left out', 'middle')
+                words = f'with {slot.records} record{"s" * (slot.records > 1)}' if slot.records else 'left out'
+                self.sheet.text('small', x, self.tops['record'] + 6, words, 'middle')
 
     def arrow(self, y):
         """From where the clocks are counted to the break, with what was found; under it the edges that are no record's. Where the next text goes."""

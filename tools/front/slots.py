@@ -3,9 +3,12 @@
 from report import ns
 from values import listed
 
-NEAR, APART = 2, 9  # records that are drawn around one; so many from the earlier one to the break are drawn all
-COUNTED, ELSEWHERE = 24, 3  # so many empty edges are drawn one by one between the ends of the arrow, and elsewhere
-CELL, QUIET, FOLD = 74, 26, 92
+# How much is shown, from the most to the least: so many records around each of the two, all between them where they are no further apart than that,
+# and so many empty edges one by one between the ends of the arrow.
+DETAILS = [(2, 9, 24), (1, 9, 24), (1, 9, 12), (1, 4, 12), (1, 2, 0)]
+ELSEWHERE = 3  # so many empty edges take no more room than a fold
+MOST = 1010  # the width that fits a page
+CELL, QUIET, FOLD = 74, 20, 92
 LETTER = 7
 
 
@@ -29,7 +32,8 @@ class Slot:
 class Break:
     """start and edge are the ends of the arrow, limit the edge that the rule names; None where the rule counts no clocks."""
 
-    def __init__(self, said, names):
+    def __init__(self, said, names, detail):
+        self.near, self.apart, self.one_by_one = detail
         self.said, self.rule, self.edge = said, int(said['rule']), int(said['edge'])
         self.number, self.partner = int(said['record']), int(said['partner'])
         self.partner_edge = int(said['partner_edge']) if self.partner else None
@@ -43,10 +47,10 @@ class Break:
         here = [int(self.said[what]) for what in ('record', 'earlier', 'later') if self.said.get(what, '0') != '0']
         first, last = min(here), max(here)
         if not self.partner:
-            return [(max(1, first - 2 * NEAR), last + NEAR)]
-        if first - self.partner <= APART:
-            return [(max(1, self.partner - NEAR), last + NEAR)]
-        return [(max(1, self.partner - NEAR), self.partner + NEAR), (first - NEAR, last + NEAR)]
+            return [(max(1, first - 2 * self.near), last + self.near)]
+        if first - self.partner <= self.apart:
+            return [(max(1, self.partner - self.near), last + self.near)]
+        return [(max(1, self.partner - self.near), self.partner + self.near), (first - self.near, last + self.near)]
 
     def slots(self):
         places = sorted({*self.records, self.edge, *(edge for edge in (self.start, self.limit) if edge is not None)})
@@ -64,7 +68,17 @@ class Break:
     def between(self, last, edge, skipped):
         """The edges between two places, of which some may have records that are not drawn."""
         empty = edge - last - 1
-        inside = self.counted and self.limit - self.start <= COUNTED and self.start <= last and edge <= max(self.edge, self.limit)
-        if not skipped and empty <= (COUNTED if inside else ELSEWHERE):
+        inside = self.counted and self.limit - self.start <= self.one_by_one and self.start <= last and edge <= max(self.edge, self.limit)
+        if not skipped and empty <= (self.one_by_one if inside else ELSEWHERE):
             return [Slot(quiet) for quiet in range(last + 1, edge)]
         return [Slot(None, edges=empty, records=skipped)]
+
+
+def fitting(said, names):
+    """The break and its slots, with as much around it as fits."""
+    for detail in DETAILS:
+        what = Break(said, names, detail)
+        slots = what.slots()
+        if sum(slot.width for slot in slots) <= MOST:
+            break
+    return what, slots
