@@ -52,14 +52,15 @@ def edition_2(folder):
     capture, example = vcd([DES] * 11 + [ACT] + [DES] * 2, wires, start=start), '2405dc000000' + '00000cd360246000' + '000002f700000000'
     for more in RESET, ODT, CS1, RESET + ODT + CS1:
         ran, out = imported(folder, capture, *MAPPED, *more)
-        check(f'edition 2 with {more}: {ran} {out.hex()}', ran.returncode == 0 and out.hex() == example and b'edition 2' in ran.stdout and b'CS0: ACT 1' in ran.stdout)
+        good = b'edition 2' in ran.stdout and b'CS0: ACT 1' in ran.stdout
+        check(f'edition 2 with {more}: {ran} {out.hex()}', ran.returncode == 0 and out.hex() == example and good)
     late = shifted(vcd([DES] * 3 + [ACT], wires, start=start), 5000, 1500 << 24)
     ran, out = imported(folder, late, *MAPPED, *ODT, '--still', '--period', '1500')
     check(f'edition 2 with a filler first: {ran} {out.hex()}', ran.returncode == 0 and out[6:].hex() == 'fffffff700000000' + '000005d360246000')
 
 
-WIDE = bytes.fromhex('2405dc000000' + '0000053fe0000000' + '00000377e0000000' + '000004d760246000' + '000001e960246000' + '000007f3c0000000' + '000002b700000000'
-                     + '000009c100000000' + 'ffffffd300000000')
+WIDE = bytes.fromhex('2405dc000000' + '0000053fe0000000' + '00000377e0000000' + '000004d760246000' + '000001e960246000' + '000007f3c0000000'
+                     + '000002b700000000' + '000009c100000000' + 'ffffffd300000000')
 
 
 def edition_2_back(folder):

@@ -16,6 +16,7 @@ from layout import EDITIONS
 from programs import Failed
 
 SIMULATED = ['--pin', 'CS=cs_n', '--pin', 'RAS=ras_n', '--pin', 'CAS=u_ddr.cas_n', '--pin', 'WE=board/u_ddr/we_n', '--pin', 'BA=u_ddr/ba', '--pin', 'A=board/a']
+OFF = b'#3750\n$dumpoff\nx!\nx"\nbx #\n$end\n#3900\n$dumpon\n0!\n1"\nb1111 #\n$end'
 TOLD = ('outcome', 'rule', 'needed', 'found', 'record_command', 'partner_command')
 
 
@@ -68,6 +69,7 @@ def damaged(folder):
         ('the clock twice at one time', good.replace(b'#3000\n1!', b'#3000\n1!\n0!'), 'CK changes twice', '3000 ps'),
         ('the clock twice in two lines of one time', good.replace(b'#3000\n1!', b'#3000\n1!\n#3000\n0!'), 'CK changes twice', '3000 ps'),
         ('the clock unknown', good.replace(b'#3750\n0!', b'#3750\nx!'), 'CK is x or z from 3750 ps to 4500 ps'),
+        ('a capture that was switched off', good.replace(b'#3750\n0!', OFF), 'CK is x or z from 3750 ps to 3900 ps'),
         ('a clock that stops', shifted(good, 4000, 60000), 'the clock stops', '61500 ps from edge 2 at 3000 ps'),
         ('no period', vcd([DES]), 'period', '--period'),
         ('a period that does not fit', vcd([DES] * 9, period=1400), '1400 ps', '1333', "bin's least"),
@@ -78,7 +80,9 @@ def damaged(folder):
     refuses(folder, 'a wrong period', good, [*MAPPED, '--period', '3400'], '3400 ps')
     refuses(folder, 'a clock of another period', vcd([DES] * 9, period=3000), [*MAPPED, '--period', '1500'], '3000 ps from edge 1', 'the period is 1500 ps')
     twice = good.replace(b'b0011 #', b'b0111 #\nb0011 #')
-    takes(folder, 'a pin twice at one time', twice, MAPPED, f'000007{ACT_BYTES}000009f80000', beside=b'1 times, first CS at 9000 ps')
+    takes(folder, 'a pin twice at one time', twice, MAPPED, f'000007{ACT_BYTES}000009f80000', beside=b'1 times, first RAS at 9000 ps')
+    again = good.replace(b'#3750\n0!', b'#3750\n0!\n$comment 1! #1 $end\n$dumpall\n0!\n1"\nb1111 #\nbz %\n$end')
+    takes(folder, 'a capture that repeats its levels', again, MAPPED, f'000007{ACT_BYTES}000009f80000')
     still = [*MAPPED, '--still', '--period', '1500']
     takes(folder, 'a clock that may stop', shifted(good, 4000, 60000), still, f'00002f{ACT_BYTES}000009f80000', b'40 of them counted by time')
 

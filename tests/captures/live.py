@@ -20,7 +20,8 @@ def installed():
     if os.environ.get('CI') == 'true' and os.geteuid() == 0 and shutil.which('apt-get'):
         try:
             for words in ['update'], ['install', '-y', '--no-install-recommends', *wanted]:
-                subprocess.run(['apt-get', '-q', *words], capture_output=True, check=True, timeout=PATIENCE, env={**os.environ, 'DEBIAN_FRONTEND': 'noninteractive'})
+                silent = {**os.environ, 'DEBIAN_FRONTEND': 'noninteractive'}
+                subprocess.run(['apt-get', '-q', *words], capture_output=True, check=True, timeout=PATIENCE, env=silent)
             return True
         except (subprocess.SubprocessError, OSError) as error:
             why = f'not to be installed ({type(error).__name__})'

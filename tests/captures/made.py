@@ -38,7 +38,8 @@ def longest(recording):
     return max(int.from_bytes(recording[at:at + 3], 'big') for at in range(6, len(recording), 6))
 
 
-CK, CKE, PINS, BA, A = '$var wire 1 ! ck $end', '$var reg 1 " cke $end', '$var reg 4 # pins [3:0] $end', '$var reg 3 $ ba [2:0] $end', '$var reg 16 % a [15:0] $end'
+CK, CKE, PINS = '$var wire 1 ! ck $end', '$var reg 1 " cke $end', '$var reg 4 # pins [3:0] $end'
+BA, A = '$var reg 3 $ ba [2:0] $end', '$var reg 16 % a [15:0] $end'
 WIRES = [CK, CKE, PINS, BA, A]
 MAPPED = ['--pin', 'CS=pins[3]', '--pin', 'RAS=pins[2]', '--pin', 'CAS=top.pins[1]', '--pin', 'WE=pins[0]']
 DES, ACT = ('1', '1111', 'z', 'z'), ('1', '0011', '011', '100100011')

@@ -11,7 +11,7 @@ def complain(words):
 
 
 class Progress:
-    """Told of bytes that were read, of so many in all, it says how far the work is, first after some seconds."""
+    """Told of bytes that were read, of so many in all, it says how far the work is, first after some seconds. What is read twice counts twice."""
 
     def __init__(self, what, size):
         self.what, self.size, self.done, self.next = what, size, 0, time.monotonic() + EVERY
@@ -21,4 +21,4 @@ class Progress:
         now = time.monotonic()
         if now >= self.next:
             self.next = now + EVERY
-            complain(f'{self.what}: {100 * self.done // max(self.size, 1)} % of {self.size} bytes')
+            complain(f'{self.what}: {100 * self.done // max(self.size, 1)} %')

@@ -124,11 +124,12 @@ class Vcd:
 
     def changed_twice(self, pins, mask, time):
         """Of the clock it is an error; of another pin the last level counts, and it is told."""
-        if mask & pins.clocks:
+        bits = mask | mask >> UNKNOWN
+        if bits & pins.clocks:
             raise Damaged(f'CK changes twice at one time, {self.times.told(time)}')
         self.twice += 1
         if not self.first_twice:
-            self.first_twice = next(name for bit, name in pins.names.items() if bit & mask), self.times.told(time)
+            self.first_twice = next(name for bit, name in pins.names.items() if bit & bits), self.times.told(time)
 
 
 class Changes:
@@ -165,8 +166,7 @@ class Changes:
                     continue
             own, level = change
             if mask & own:
-                if own & ~before and put & own != level:
-                    doubled |= own
+                doubled |= (put ^ level) & own & ~before
                 put, again = put & ~own, again | own
             mask, put = mask | own, put | level
         found = mask & ~before | again, ~mask, put, doubled
