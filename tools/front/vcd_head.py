@@ -40,6 +40,11 @@ def wires(text):
                 yield wire(scopes, int(words[1]), words[2], b''.join(words[3:]))
 
 
+def codes(text):
+    """The codes that the header declares, of wires and of what has no levels."""
+    return {content.split()[2] for kind, content in sections(text) if kind == b'var' and len(content.split()) >= 4}
+
+
 def wire(scopes, size, code, reference):
     name, left, right = re.fullmatch(rb'(.*?)(?:\[(\d+)(?::(\d+))?\])?', reference, re.S).groups()
     if left is None and size > 1:

@@ -10,12 +10,13 @@ from fractions import Fraction
 from clock import Times, Turns
 from files import Damaged
 from pins import CLOCK, UNKNOWN, start
-from vcd_head import printable, scale, wires
+from vcd_head import codes, printable, scale, wires
 
 MOST = 1 << 26  # bytes of the changes at one time, or of a comment
 KNOWN, SHORT = 1 << 12, 64  # so many texts of changes are kept, of so many bytes
 LEVELS = {'0': b'0lL', '1': b'1hH', 'x': b'xXzZuUwW-'}
-BLOCK = 0, 0
+ALL = b''.join(LEVELS.values())
+BLOCK, NOTHING = [], []  # what is no change of a pin: the ends of a $dump block, and a wire that no pin is on
 DUMPS = {b'$dumpvars', b'$dumpall', b'$dumpon', b'$dumpoff'}
 
 
@@ -25,7 +26,7 @@ class Vcd:
     def __init__(self, parts, progress):
         self.parts, self.progress = parts, progress
         head = self.header()
-        self.times, self.wires = Times(Fraction(scale(head))), list(wires(head))
+        self.times, self.wires, self.codes = Times(Fraction(scale(head))), list(wires(head)), codes(head)
 
     def header(self):
         """All up to $enddefinitions."""
@@ -71,7 +72,7 @@ class Vcd:
         self.twice, self.first_twice = 0, None
         clocks = pins.clocks | pins.clocks << UNKNOWN
         others = ~clocks
-        low, high, changes = turns.low, turns.high, Changes(pins, self.times)
+        low, high, changes = turns.low, turns.high, Changes(pins, self.times, self.codes)
         up, down = changes.alone(CLOCK) if pins.clocks == CLOCK else (b'', b'')
         known, word, time, changed = changes.known, start(pins), -1, None
         before, clock, touched = word, word & clocks, 0
@@ -138,8 +139,8 @@ class Changes:
 
     known: short texts that come again and again. block: a $dump block is open."""
 
-    def __init__(self, pins, times):
-        self.known, self.block, self.scalars, self.vectors, self.times = {}, False, {}, {}, times
+    def __init__(self, pins, times, codes_):
+        self.known, self.block, self.scalars, self.vectors, self.times, self.codes = {}, False, {}, {}, times, codes_
         for code, places in pins.places.items():
             bits = sum(bit for _, bit in places)
             self.vectors[code] = bits | bits << UNKNOWN, places
@@ -161,9 +162,11 @@ class Changes:
                 change = self.otherwise(token, tokens, time)
                 if change is None:
                     continue
-                if change == BLOCK:
+                if change is BLOCK:
                     before = mask
                     continue
+            elif change is NOTHING:
+                continue
             own, level = change
             if mask & own:
                 doubled |= (put ^ level) & own & ~before
@@ -178,23 +181,19 @@ class Changes:
 
     def otherwise(self, token, tokens, time):
         """A token that is no scalar's change: bits and levels of a vector, BLOCK at a $dump block's ends, None for what is nothing to us."""
-        if token[0] in b'bB':
-            code = next(tokens, None)
-            if code is None:
-                raise Damaged(f'at {self.times.told(time)} a vector has no code behind it')
-            if code not in self.vectors:
-                return None
-            mask, places = self.vectors[code]
-            return mask, carried(token[1:], places)
         if token in DUMPS or token == b'$end':
             self.block = token != b'$end'
             return BLOCK
-        if token[0] in b'rRsS':
-            next(tokens, None)
-        elif token[0] in b'#$':
-            raise Damaged(f'at {self.times.told(time)} {printable(token)[:40]} does not begin a line, or is no part of a VCD')
-        elif token[1:] in self.vectors:
-            raise Damaged(f'at {self.times.told(time)} {printable(token)[:40]} has no level')
+        longer = token[0] in b'bBrRsS'
+        code = next(tokens, b'') if longer else token[1:]
+        if token[0] in b'#$' or code not in self.codes or not longer and token[0] not in ALL:
+            whole = b' '.join([token, code]) if longer else token
+            raise Damaged(f'at {self.times.told(time)} {printable(whole)[:60]} is no change of a wire')
+        if not longer:
+            self.scalars[token] = NOTHING
+        elif token[0] in b'bB' and code in self.vectors:
+            mask, places = self.vectors[code]
+            return mask, carried(token[1:], places)
         return None
 
 
