@@ -10,6 +10,8 @@ from pathlib import Path
 
 from common import P8, P9, RULES, check, run
 
+# REF, SRE, a record while CKE is low, SRX 60,000 edges later, REF, and 20,000 edges: three refreshes fall due, in the sleep none, two are given
+ASLEEP = bytes.fromhex('000020880000' + '000060080000' + '000010380000' + '00ea60b80000' + '000070880000' + '004e20f80000')
 NAMES = [b'a<b>&"\'.rec', b'no \xff text', b'two\nlines', b'$end ]]>']
 
 
@@ -36,13 +38,16 @@ def of_breaks(folder):
                 check(f'the picture of rule {rule} has not record {found[what]}', str(found[what]) in words and any(place in line for line in words))
         if rule not in (1, 2, 3, 23, 25):
             told = f'found {found["found"]}, {"at most" if rule in (24, 28) else "needed"} {found["needed"]}'
-            check(f'the picture of rule {rule} has not: {told}', told in words)
+            limit = f'{"limit" if rule in (24, 28) else "allowed from"}: edge {found["edge"] - found["found"] + found["needed"]}'
+            check(f'the picture of rule {rule} has not: {told}, {limit}', told in words and limit in words)
 
 
 def of_others(folder):
     ran, words = picture(folder, P9)
     good = 'Verdict: clean' in words[0] and 'Commands a microsecond' in words and any('Refresh debt' in word for word in words) and {'-8', '8'} <= set(words)
     check(f'the picture of a clean recording: {ran}', ran.returncode == 0 and good)
+    ran, words = picture(folder, P9 + ASLEEP)
+    check(f'the picture of a clean recording with a self-refresh: {ran}', ran.returncode == 0 and any('; 1 at the end' in word for word in words))
     ran, words = picture(folder, P8[:6])
     check(f'the picture of no records: {ran}', ran.returncode == 0 and words)
     (folder / 'r.svg').write_bytes(b'as it was')

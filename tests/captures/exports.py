@@ -1,5 +1,6 @@
 """Recordings to captures and back, of both editions."""
 
+import json
 import re
 
 from common import P8, P9, PART, RULES, SHORT, check, imported, run
@@ -19,16 +20,22 @@ def came_back(folder, what, recording, gap=()):
     return (folder / 'r.vcd').read_bytes()
 
 
+def marked(dump, name, period):
+    """The edges that bear this mark."""
+    unit, code = int(re.search(rb'\$timescale (\d+) ps', dump)[1]), re.search(rf'\$var wire 1 (.) {name} '.encode(), dump)[1]
+    pieces = [piece.split(b'\n') for piece in dump.split(b'\n#')[1:]]
+    return [int(piece[0]) * unit // period + 1 for piece in pieces if b'1' + code in piece]
+
+
 def round_trips(folder):
     for rule, recording in sorted(RULES.items()):
-        came_back(folder, f'rule {rule}', recording, ['--gap', '1000'] if longest(recording) > 20000 else ())
+        dump = came_back(folder, f'rule {rule}', recording, ['--gap', '1000'] if longest(recording) > 20000 else ())
+        found = json.loads(run(folder, '--json', 'r.rec').stdout)
+        marks = [marked(dump, name, found['period_ps']) for name in ('BREAK', 'PARTNER')]
+        check(f'rule {rule} is marked at {marks}', marks == [[found['edge']], [found['partner_edge']] if found['partner'] else []])
     for what, recording in ('P8', P8), ('P9', P9), ('short', SHORT):
         dump = came_back(folder, what, recording)
         check(f'{what} has fillers', without_fillers(recording) == recording)
-    marks = {name: re.search(rf'\$var wire 1 (.) {name} '.encode(), dump)[1] for name in ('BREAK', 'PARTNER')}
-    for name, edge in ('BREAK', 28), ('PARTNER', 25):
-        check(f'no {name} before edge {edge}', f'\n#{edge * 15 - 8}\n'.encode() in dump and dump.count(b'\n1' + marks[name] + b'\n') == 1)
-        check(f'{name} is not at edge {edge}', b'\n1' + marks[name] + b'\n' in dump.split(f'\n#{edge * 15 - 8}\n'.encode())[1].split(b'\n#')[0] + b'\n')
     check('no verdict and no names in the export', b'$comment broken 7 6 5 28 4 3 $end' in dump and dump.count(b'\nsMRS ') == 4 and dump.count(b'\nsACT ') == 2)
     came_back(folder, 'fillers', P8 + bytes.fromhex('000001b80000000005c81234000002380000000003550000000001881111000004b80000000009f80001'))
     came_back(folder, 'a header alone and a NOP', P8[:6] + bytes.fromhex('000123b80000'))

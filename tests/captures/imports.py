@@ -87,6 +87,7 @@ def damaged(folder):
     again = good.replace(b'#3750\n0!', b'#3750\n0!\n$comment 1! #1 $end\n$dumpall\n0!\n1"\nb1111 #\nbz %\n$end')
     takes(folder, 'a capture that repeats its levels', again, MAPPED, f'000007{ACT_BYTES}000009f80000')
     still = [*MAPPED, '--still', '--period', '1500']
+    takes(folder, 'a clock that may stop for good', stops, still, '00001af80000', b'23 of them counted by time')
     takes(folder, 'a clock that may stop', shifted(good, 4000, 60000), still, f'00002f{ACT_BYTES}000009f80000', b'40 of them counted by time')
 
 
@@ -122,7 +123,7 @@ def unknown(folder):
     for what, edge, pin in [
         ('CKE', ('x', '1111', 'z', 'z'), 'CKE'), ('CS', ('1', 'x111', 'z', 'z'), 'CS'), ('WE', ('1', '001x', '1', '1'), 'WE'),
         ('BA', ('1', '0011', 'z', '1'), 'BA2'), ('A', ('1', '0011', '1', 'x'), 'A15'), ('A10 of a PRE', ('1', '0010', '1', 'z'), 'A10'),
-        ('BA of a PRE', ('1', '0010', 'x', '0'), 'BA2'),
+        ('BA of a PRE', ('1', '0010', 'x', '0'), 'BA2'), ('CS where CKE falls', ('0', 'x111', 'z', 'z'), 'CS'),
     ]:
         capture = vcd([DES] * 3 + [edge] + [DES] * 3)
         refuses(folder, f'{what} unknown', capture, MAPPED, f'{pin} is x or z at 6000 ps, edge 4', '--x')
@@ -135,6 +136,7 @@ def unknown(folder):
     ]:
         capture = vcd([DES] * 3 + [edge] + [(edge[0], *DES[1:])] * 3)
         takes(folder, f'{what} with pins that do not matter', capture, MAPPED, records_, b'' if what == 'NOP' else b'do not matter')
+    takes(folder, 'CS unknown at three edges', vcd([DES] * 3 + [('1', 'x111', 'z', 'z')] * 3), [*MAPPED, '--x', '1'], '000006f80000', b'count as 1: 3\n')
     takes(folder, 'WE unknown, --x 0', vcd([DES] * 3 + [('1', '001x', '1', '1')]), [*MAPPED, '--x', '0'], '000004910001', b'count as 0: 1\n')
     low = vcd([('0', '1111', 'z', 'z')] * 3 + [DES] * 3)
     takes(folder, 'CKE low from the start', low, MAPPED, '000001780000000003f80000000002f80000', beside=b'begins with CKE low')
@@ -158,6 +160,8 @@ def names(folder):
     inner = '$scope module u1 $end $var wire 1 K cke $end $upscope $end'
     capture = vcd(edges, [CK, '$var reg 1 " CKE $end', *bare, inner])
     takes(folder, 'a name whose case fits comes first', capture, MAPPED, wanted)
+    upward = vcd([DES] * 6 + [('1', '0011', '110', '1100010010000000')] + [DES] * 3, [CK, CKE, PINS, '$var reg 3 $ ba [0:2] $end', '$var reg 16 % a [0:15] $end'])
+    takes(folder, 'buses that are declared upwards', upward, MAPPED, wanted)
     twins = vcd(edges, [CK, inner, '$scope module u2 $end $var reg 1 " cke $end $upscope $end', *bare])
     refuses(folder, 'a name that several have', twins, MAPPED, 'CKE', 'top/u1/cke', 'top/u2/cke')
     takes(folder, 'a name with a scope', twins, [*MAPPED, '--pin', 'CKE=u2/cke'], wanted)
