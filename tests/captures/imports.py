@@ -160,7 +160,8 @@ def names(folder):
     inner = '$scope module u1 $end $var wire 1 K cke $end $upscope $end'
     capture = vcd(edges, [CK, '$var reg 1 " CKE $end', *bare, inner])
     takes(folder, 'a name whose case fits comes first', capture, MAPPED, wanted)
-    upward = vcd([DES] * 6 + [('1', '0011', '110', '1100010010000000')] + [DES] * 3, [CK, CKE, PINS, '$var reg 3 $ ba [0:2] $end', '$var reg 16 % a [0:15] $end'])
+    turned = [CK, CKE, PINS, '$var reg 3 $ ba [0:2] $end', '$var reg 16 % a [0:15] $end']
+    upward = vcd([DES] * 6 + [('1', '0011', '110', '1100010010000000')] + [DES] * 3, turned)
     takes(folder, 'buses that are declared upwards', upward, MAPPED, wanted)
     twins = vcd(edges, [CK, inner, '$scope module u2 $end $var reg 1 " cke $end $upscope $end', *bare])
     refuses(folder, 'a name that several have', twins, MAPPED, 'CKE', 'top/u1/cke', 'top/u2/cke')
