@@ -62,6 +62,7 @@ def damaged(folder):
         ('cut off in the header', good[:80], '$enddefinitions'),
         ('cut off in $dumpvars', good[:good.index(b'bx %')], 'cut off', '$dump'),
         ('empty', b'', 'c.vcd: it is empty'),
+        ('no text', b'\0' + good, 'c.vcd: it is neither VCD nor CSV'),
         ('no clock edge', good[:good.index(b'#1500')], 'CK never rises'),
         ('time that goes back', good.replace(b'#3000\n', b'#1200\n'), 'goes back', '2250 ps', '1200 ps'),
         ('a time that is none', good.replace(b'#3000\n', b'#3o00\n'), '#3o00 is no time', '2250 ps'),

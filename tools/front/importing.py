@@ -59,8 +59,8 @@ def taken_header(wanted, edition, period):
 def opened(name):
     """VCD begins with a $, CSV does not."""
     first = next(parts(name), b'')
-    if not first:
-        raise Damaged('it is empty')
+    if not first or b'\0' in first:
+        raise Damaged('it is neither VCD nor CSV' if first else 'it is empty')
     return (Vcd if first.lstrip()[:1] == b'$' else Csv)(lambda: parts(name), Progress(shown(name), 2 * os.stat(name).st_size))
 
 

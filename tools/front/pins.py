@@ -119,7 +119,7 @@ class Pins:
         if not named and name in LEAST and not select:
             named = self.numbered(text)
         if len({tuple(sorted(bits.items())) for bits in named.values()}) > 1:
-            raise Damaged(f'{name}: {wire} may be any of {some(sorted(named))}')
+            raise Damaged(f'{name}: {wire} may be any of {some(sorted(named))} (--pin {name}=WIRE names one)')
         bits = next(iter(named.values()), {})
         if not select or not bits:
             return bits
@@ -154,7 +154,7 @@ class Pins:
 
 
 def some(names):
-    return ', '.join(names[:12]) + (f' and {len(names) - 12} more' if len(names) > 12 else '')
+    return ', '.join(name[:80] for name in names[:12]) + (f' and {len(names) - 12} more' if len(names) > 12 else '')
 
 
 def start(pins):
