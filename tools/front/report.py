@@ -1,10 +1,9 @@
 """The report for a person: the verdict first, how it comes about, then the tables."""
 
 from brief import command, place, told
+from layout import BINS
 from sums import needed
 from words import RULES
-
-BINS = ['1066', '1333', '1600', '1866']
 
 
 def ns(said, edge):
