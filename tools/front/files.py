@@ -1,5 +1,6 @@
 """The files of a recording: that each can be read, what it is called in print, and its bytes one part after the other."""
 
+import hashlib
 import os
 import stat
 import sys
@@ -9,6 +10,10 @@ PART = 1 << 16
 
 class Unreadable(Exception):
     """A file that cannot be judged, with the reason in words."""
+
+
+class Damaged(Unreadable):
+    """A capture that no recording can be made of, with the reason in words; whoever opened it adds its name."""
 
 
 def shown(name):
@@ -28,7 +33,7 @@ def refuse_at_once(name, twice):
     """Raises where a file is none, cannot be read, or would keep the reader waiting. twice: it will be read more than once."""
     if name == b'-':
         if twice:
-            raise Unreadable('-: a report reads its files twice; put standard input into a file')
+            raise Unreadable('-: it would be read twice; put standard input into a file')
         return
     try:
         kind = os.stat(name).st_mode
@@ -38,7 +43,7 @@ def refuse_at_once(name, twice):
         raise Unreadable(f'{shown(name)}: this is a folder')
     if stat.S_ISFIFO(kind):
         if twice:
-            raise Unreadable(f'{shown(name)}: a report reads its files twice, and this is a pipe')
+            raise Unreadable(f'{shown(name)}: it would be read twice, and this is a pipe')
         if not handed_over(name):
             raise Unreadable(f'{shown(name)}: a named pipe may keep a reader waiting; hand it over as standard input: judge - <FILE')
     if not os.access(name, os.R_OK):
@@ -67,3 +72,11 @@ def parts(name):
                 yield part
     except OSError as error:
         raise Unreadable(f'{shown(name)}: {reason(error)}') from None
+
+
+def hashed(some):
+    """The SHA-256 of bytes that come part after part."""
+    digest = hashlib.sha256()
+    for part in some:
+        digest.update(part)
+    return digest.hexdigest()

@@ -1,25 +1,22 @@
 """./judge: judges recordings with the proved programs and tells clean from broken by its status. `judge --help` tells how."""
 
 import os
-import subprocess
 import sys
 
 from brief import told
 from files import Unreadable, parts, refuse_at_once, shown
-from options import HELP, USAGE, Wrong, asked
-from programs import ROOT, Failed, answer, built
+from identity import commit, kit
+from options import HELP, USAGE, WRITES, Wrong, asked
+from programs import Failed, answer, built
 from records import around, table
 from report import report
+from tell import complain
 from values import as_json, lines, listed, said
 
 CLEAN, BROKEN, NONE, LOST = 0, 1, 2, 3
 STATUS = {b'clean': CLEAN, b'broken': BROKEN, b'refused': NONE}
 OUTCOME = {'clean': CLEAN, 'broken': BROKEN, 'none': NONE}
 HEADER = RECORD = 6
-
-
-def complain(words):
-    print(f'judge: {words}', file=sys.stderr, flush=True)
 
 
 def status(line):
@@ -123,18 +120,23 @@ def listing(wanted):
     return text_of(table(found, listed(wanted.files, first, last), wanted.files)), OUTCOME[found['outcome']]
 
 
+def judged(names):
+    """The values, where there is a verdict."""
+    found = told_of(names)
+    if found['outcome'] == 'none':
+        raise Unreadable(told(found, shown(names[-1])))
+    return found
+
+
+def to_a_file(wanted):
+    """Loads what these modes need only here, so that a plain verdict does not wait for it."""
+    from writing import wrote
+    some, outcome = wrote(wanted, lambda: judged(wanted.files))
+    return text_of(some), OUTCOME[outcome]
+
+
 def version():
-    commit = first_line('git', '-C', ROOT, 'rev-parse', 'HEAD') if (ROOT / '.git').exists() else ''
-    return f'manilaply {commit or "of an unknown commit"}\n{first_line("rt", "version") or "rt is not to be found"}\n'.encode(), CLEAN
-
-
-def first_line(*words):
-    """What a command says, or nothing where it cannot be run."""
-    try:
-        ran = subprocess.run(words, capture_output=True, text=True, check=False)
-    except OSError:
-        return ''
-    return ran.stdout.strip() if ran.returncode == 0 else ''
+    return f'manilaply {commit()}\n{kit()}\n'.encode(), CLEAN
 
 
 def write(text):
@@ -154,6 +156,8 @@ def run(words):
         return laid_out(wanted)
     if wanted.mode == 'list':
         return listing(wanted)
+    if wanted.mode in WRITES:
+        return to_a_file(wanted)
     return judge(wanted.files)
 
 

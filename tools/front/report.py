@@ -1,15 +1,17 @@
 """The report for a person: the verdict first, how it comes about, then the tables."""
 
 from brief import command, place, told
+from layout import BINS
 from sums import needed
 from words import RULES
-
-BINS = ['1066', '1333', '1600', '1866']
 
 
 def ns(said, edge):
     """An edge in ns."""
-    ps = int(edge) * int(said['period_ps'])
+    return ns_of(int(edge) * int(said['period_ps']))
+
+
+def ns_of(ps):
     return f'{ps // 1000}.{ps % 1000:03d}'.rstrip('0').rstrip('.') + ' ns'
 
 

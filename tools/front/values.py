@@ -22,7 +22,11 @@ DIGITS = re.compile(r'levels_\w+|\w+_(address|row|bytes|pins)|mr[0-3]')
 def printed(names, *words):
     """Name and value of each line that the program prints."""
     given = [b'./' + name if name.startswith(b'-') else name for name in names]
-    return [line.split(' ', 1) for line in answer('lot', [], *words, *given).decode().splitlines()]
+    return taken_apart(answer('lot', [], *words, *given))
+
+
+def taken_apart(text):
+    return [line.split(' ', 1) for line in text.decode().splitlines()]
 
 
 def said(names, run=printed):
