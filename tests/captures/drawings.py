@@ -38,7 +38,8 @@ def of_breaks(folder):
                 check(f'the picture of rule {rule} has not record {found[what]}', str(found[what]) in words and any(place in line for line in words))
         if rule not in (1, 2, 3, 23, 25):
             told = f'found {found["found"]}, {"at most" if rule in (24, 28) else "needed"} {found["needed"]}'
-            limit = f'{"limit" if rule in (24, 28) else "allowed from"}: edge {found["edge"] - found["found"] + found["needed"]}'
+            edge = found['edge'] - found['found'] + found['needed']
+            limit = f'limit: edge {edge}' if rule in (24, 28) else f'rule {rule} allows it from edge {edge}'
             check(f'the picture of rule {rule} has not: {told}, {limit}', told in words and limit in words)
 
 

@@ -184,7 +184,7 @@ class Drawing:
         if what.counted and what.start != what.partner_edge:
             yield what.start, f'its precharge starts: edge {what.start}'
         if what.limit is not None and what.limit != what.edge:
-            yield what.limit, f'{"limit" if what.number == 0 else "allowed from"}: edge {what.limit}'
+            yield what.limit, f'limit: edge {what.limit}' if what.number == 0 else f'rule {what.rule} allows it from edge {what.limit}'
 
     def found(self):
         said, rule = self.said, self.what.rule
