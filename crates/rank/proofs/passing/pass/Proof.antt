@@ -1,7 +1,6 @@
 -- What is left behind, then the edge.
 -- Assumes nothing.
 use native.Mathlib.Omega.{arith}
-use borrow.Author.Needs.{needs}
 use Rattle.rank.proofs.passing.pass.Statement.{statement}
 use Rattle.rank.proofs.passing.pass.Tie as tie
 
