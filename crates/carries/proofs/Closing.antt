@@ -6,9 +6,9 @@ use native.Mathlib.Omega.{arith}
 use mathlib.Core.Path.{_≡_, refl, sym, ap, _∙_}
 use mathlib.Core.Logic.{⊎-elim}
 use mathlib.Core.Bool.{Bool, true, false, cond}
-use mathlib.Core.List.{[], _∷_}
+use mathlib.Core.List.{[]}
 use lib.Dec.{ltb, leb}
-use borrow.Author.Tests.{leb-true, leb-false, lt-leb}
+use borrow.Author.Tests.{leb-false}
 use Rattle.laws.specs.Eight.{table}
 use Rattle.laws.proofs.Eight.{table-ext}
 use Rattle.answers.specs.declared.Break.{Break}
@@ -35,7 +35,8 @@ use Rattle.rules.proofs.Status.{status-of}
 use Rattle.rules.proofs.Numbered.{keep-clean, told-clean, by-number}
 use Rattle.rules.proofs.Sense.{stays-to, stop-at, stop-after, clean-edges, earliest}
 use Rattle.rules.proofs.Gap.{nowAny}
-use Rattle.rules.proofs.Edges.{up-to-all, clean-past, gap-says, late-after, small-owed, near-stay}
+use Rattle.rules.proofs.UpTo.{up-to-all, up-to-edge, up-to-zero}
+use Rattle.rules.proofs.Edges.{clean-past, gap-says, late-after, small-owed, near-stay, near-ref}
 use Rattle.rules.proofs.Turn.{said}
 use Rattle.rules.proofs.Closing.{rest-shown, registersIn, registers-in, answer-of}
 use Rattle.carries.proofs.Summary.{clocksLeft, debtOf, banksOf, deviceOf, summary}
@@ -60,19 +61,8 @@ owed-left {T} pos o f x small =
     let z : (T - 1 - (f + x) % T) / T ≡ 0 = div-eq-of-lt (omega arith) in
     omega arith
 
-up-to-edge : (u : ℕ) (p : Past) → edge (upTo u p) ≤ u
-up-to-edge u [] = omega arith
-up-to-edge u (r ∷ p) = ⊎-elim
-    (λ (y : leb (edge (r ∷ p)) u ≡ true). rw y (leb-true (edge (r ∷ p)) u y))
-    (λ (n : leb (edge (r ∷ p)) u ≡ false). rw n (up-to-edge u p))
-    (decide (leb (edge (r ∷ p)) u))
-
-up-to-zero : (p : Past) → Apart p → upTo 0 p ≡ []
-up-to-zero [] a = refl
-up-to-zero (r ∷ p) a = rw (lt-leb (edge (r ∷ p)) 0 (omega (arith, a .0))) (up-to-zero p (a .1))
-
 module _ (C : Chip) (pos : 0 < C .trefi) where
-  owed-in : (q : Past) (u : ℕ) → edge q ≤ u → owedAt (C .trefi) q u ≤ 16 → edges.owedAt C (debtOf (C .trefi) q) u ≡ owedAt (C .trefi) q u
+  owed-in : (q : Past) (u : ℕ) → edge q ≤ u → owedAt (C .trefi) q u ≤ 16 → edges.owedAt C (debtOf C q) u ≡ owedAt (C .trefi) q u
   unfolding debtOf clocksLeft
   owed-in q u l small = go (asleep q) (owed-at pos q u)
     where
@@ -131,7 +121,7 @@ module _ (C : Chip) (S : Sound C) (p : Past) (t : ℕ) where
   unfolding endOf frozen
   parts w q apart says keeps =
       answer-of C p t q keeps _ says _ (ap (banksAt C (banksOf C q)) at ∙ banks-at C q u) _ (registers-at C q) _
-      (ap (edges.owedAt C (debtOf (C .trefi) q)) at ∙ owed)
+      (ap (edges.owedAt C (debtOf C q)) at ∙ owed)
     where
       u : ℕ
       u = rest (verdictTo C p t) t
@@ -139,11 +129,11 @@ module _ (C : Chip) (S : Sound C) (p : Past) (t : ℕ) where
       at : restOf (verdictOf C (frozen C p q w) t) t ≡ rest (verdictTo C p t) t
       at = ap (λ v. restOf v t) says ∙ rest-shown (verdictTo C p t) (number p) t
 
-      kept : edges.owedAt C (debtOf (C .trefi) (upTo u p)) u ≡ owedAt (C .trefi) (upTo u p) u
+      kept : edges.owedAt C (debtOf C (upTo u p)) u ≡ owedAt (C .trefi) (upTo u p) u
       kept = owed-in C (S .refi-least) (upTo u p) u (up-to-edge u p) (owed-small C (S .refi-least) p apart u (at-rest C p t (verdictTo C p t) refl))
 
-      owed : edges.owedAt C (debtOf (C .trefi) q) u ≡ owedAt (C .trefi) q u
-      owed = ap (λ x. edges.owedAt C (debtOf (C .trefi) x) u) (sym keeps) ∙ kept ∙ ap (λ x. owedAt (C .trefi) x u) keeps
+      owed : edges.owedAt C (debtOf C q) u ≡ owedAt (C .trefi) q u
+      owed = ap (λ x. edges.owedAt C (debtOf C x) u) (sym keeps) ∙ kept ∙ ap (λ x. owedAt (C .trefi) x u) keeps
 
   -- the edges after a clean past up to the end
   end-says : Apart p → edge p ≤ t → verdictTo C p (edge p) ≡ clean → verdictOf C (summary C p) t ≡ shownVerdict C p t
@@ -154,7 +144,7 @@ module _ (C : Chip) (S : Sound C) (p : Past) (t : ℕ) where
       go (ltb (x .at) (t + 1))
       ∙ ap (λ v. shown v (number p) t)
       (sym (gap-says C p (nowAny C p) (edge p) (t + 1) (t + 1) x (omega arith) (omega arith)
-      (λ u a b. late-after C pos p u a) (due-next C p pos (small-owed C pos p apart z) (clean-past C p apart z) (near-stay C p apart z) (t + 1)) z)
+      (λ u a b. late-after C pos p u a) (due-next C p pos (small-owed C pos p apart z) (clean-past C p apart z) (near-stay C p apart z) (near-ref C p apart z) (t + 1)) z)
       ∙ ap (verdictTo C p) e)
     where
       x : Late

@@ -19,8 +19,8 @@ use Rattle.rules.specs.Deadlines.{awakeTo, owedTo}
 use Rattle.rules.proofs.Events.{never}
 use Rattle.rules.proofs.Sleeping.{sleeps-on}
 use Rattle.rules.proofs.Clean.{is-other}
-use Rattle.rules.proofs.Debts.{phase-step, owed-step}
-use Rattle.carries.proofs.Summary.{clocksLeft, debtOf}
+use Rattle.rules.proofs.Debts.{gapTo, phase-step, owed-step, gap-step}
+use Rattle.carries.proofs.Summary.{clocksLeft, gapLeft, debtOf}
 
 -- ── Intervals ───────────────────────────────────────────────────────────────────────────────
 
@@ -108,35 +108,88 @@ paid-is : (T a b x j k : ℕ) → b ≡ a + x → Paid T x j k → paid T b (a +
 paid-is T a b x j k e (inl w) = rw (le-leb (a + j) (b + 16 * T) (omega (arith, w .1))) (omega (arith, w .0))
 paid-is T a b x j k e (inr w) = rw (lt-leb (a + j) (b + 16 * T) (omega (arith, w .1))) (omega (arith, w .0))
 
-abbrev debt : Bool → ℕ → Debt
-debt s due = record { sleeps = s; due = due }
+-- the same of a part that sleeps, which no clock passes
+paid-by : (T E x j k : ℕ) (s : Bool) → Paid T (cond s 0 x) j k → paid T (cond s 0 (E + x)) (cond s 0 E + j) ≡ cond s 0 (E + x) + k
+paid-by T E x j k true h = paid-is T 0 0 0 j k (omega arith) h
+paid-by T E x j k false h = paid-is T E (E + x) x j k refl h
 
--- the edge E and the step x, asleep or not, REF or SRE or SRX; j clocks are left before and k after
-next-is :
-    (T E x j k : ℕ) (s ref sre srx : Bool) → (ref ≡ true → (sre ≡ false) × (srx ≡ false)) → (ref ≡ true → Paid T (cond s 0 x) j k)
-    → (ref ≡ false → k + cond s 0 x ≡ j)
-    → cond ref (debt s (paid T (cond s 0 (E + x)) (cond s 0 E + j)))
-    (cond sre (debt true (cond s 0 E + j - cond s 0 (E + x)))
-    (cond srx (debt false (cond s (cond s 0 E + j + (E + x)) (cond s 0 E + j))) (debt s (cond s 0 E + j))))
-    ≡ debt (sre || (not srx && s)) (cond (sre || (not srx && s)) 0 (E + x) + k)
-next-is T E x j k s true true srx d h g = never refl (d refl .0)
-next-is T E x j k s true false true d h g = never refl (d refl .1)
-next-is T E x j k true true false false d h g = ap (debt true) (paid-is T 0 0 0 j k (omega arith) (h refl))
-next-is T E x j k false true false false d h g = ap (debt false) (paid-is T E (E + x) x j k refl (h refl))
-next-is T E x j k true false true srx d h g = let e = g refl in ap (debt true) (omega arith)
-next-is T E x j k false false true srx d h g = let e = g refl in ap (debt true) (omega arith)
-next-is T E x j k true false false true d h g = let e = g refl in ap (debt false) (omega arith)
-next-is T E x j k false false false true d h g = let e = g refl in ap (debt false) (omega arith)
-next-is T E x j k true false false false d h g = let e = g refl in ap (debt true) (omega arith)
-next-is T E x j k false false false false d h g = let e = g refl in ap (debt false) (omega arith)
+-- ── Since the last REF ──────────────────────────────────────────────────────────────────────
 
-pub debt-next :
-    (C : Chip) → 0 < C .trefi → (r : Record) (p : Past) → is Bad (r ∷ p) ≡ false → owedTo (C .trefi) p ≤ 16 → owedTo (C .trefi) (r ∷ p) ≤ 16
-    → debtNext C (command (r ∷ p)) (edge (r ∷ p)) (debtOf (C .trefi) p) ≡ debtOf (C .trefi) (r ∷ p)
-unfolding debtNext debtOf
-debt-next C pos r p good small after =
-    next-is (C .trefi) (edge p) (r .step) (clocksLeft (C .trefi) p) (clocksLeft (C .trefi) (r ∷ p))
-    (asleep p) (is Ref (r ∷ p)) (is Sre (r ∷ p)) (is Srx (r ∷ p))
-    (λ y. (is-other Ref Sre (r ∷ p) (λ z. omega arith) y, is-other Ref Srx (r ∷ p) (λ z. omega arith) y))
-    (left-ref pos r p small after) (left-other pos r p small after)
-    ∙ ap (λ s. debt s (cond s 0 (edge (r ∷ p)) + clocksLeft (C .trefi) (r ∷ p))) (sym (sleeps-on r p good))
+module _ (m : ℕ) (r : Record) (p : Past) where
+  -- a REF leaves all clocks
+  gap-ref : is Ref (r ∷ p) ≡ true → gapLeft m (r ∷ p) ≡ m + 1
+  unfolding gapLeft
+  gap-ref y = let z : gapTo (r ∷ p) ≡ 0 = sym (gap-step r p) ∙ rw y in omega arith
+
+  gap-other : gapTo (r ∷ p) ≤ m → is Ref (r ∷ p) ≡ false → gapLeft m (r ∷ p) + cond (asleep p) 0 (r .step) ≡ gapLeft m p
+  unfolding gapLeft
+  gap-other l n = let z : gapTo (r ∷ p) ≡ gapTo p + cond (asleep p) 0 (r .step) = sym (gap-step r p) ∙ rw n in omega arith
+
+-- ── An edge of the debt ─────────────────────────────────────────────────────────────────────
+
+-- at most one of a REF, an SRE and an SRX, as far as it matters
+abbrev Alone : (ref sre srx : Bool) → Type 0
+Alone ref sre srx = ref ≡ true → (sre ≡ false) × (srx ≡ false)
+
+-- asleep after the record
+abbrev on : (s sre srx : Bool) → Bool
+on s sre srx = sre || (not srx && s)
+
+-- the edge E and the step x, asleep or not; j clocks are left before the record and k after it, and a REF puts the edge to q
+edge-next :
+    (E x j k q : ℕ) (s ref sre srx : Bool) → Alone ref sre srx → (ref ≡ true → q ≡ cond s 0 (E + x) + k) → (ref ≡ false → k + cond s 0 x ≡ j)
+    → cond ref q (cond sre (cond s 0 E + j - cond s 0 (E + x)) (cond srx (cond s 0 E + j + cond s (E + x) 0) (cond s 0 E + j)))
+    ≡ cond (on s sre srx) 0 (E + x) + k
+edge-next E x j k q s true true srx d h g = never refl (d refl .0)
+edge-next E x j k q s true false true d h g = never refl (d refl .1)
+edge-next E x j k q s true false false d h g = h refl
+edge-next E x j k q true false true srx d h g = let e = g refl in omega arith
+edge-next E x j k q false false true srx d h g = let e = g refl in omega arith
+edge-next E x j k q true false false true d h g = let e = g refl in omega arith
+edge-next E x j k q false false false true d h g = let e = g refl in omega arith
+edge-next E x j k q true false false false d h g = let e = g refl in omega arith
+edge-next E x j k q false false false false d h g = let e = g refl in omega arith
+
+sleep-next : (s ref sre srx : Bool) → Alone ref sre srx → cond ref s (cond sre true (cond srx false s)) ≡ on s sre srx
+sleep-next s true true srx d = never refl (d refl .0)
+sleep-next s true false true d = never refl (d refl .1)
+sleep-next s true false false d = refl
+sleep-next s false true srx d = refl
+sleep-next s false false true d = refl
+sleep-next s false false false d = refl
+
+-- ── The next record ─────────────────────────────────────────────────────────────────────────
+
+abbrev debt : Bool → (due gap : ℕ) → Debt
+debt s due gap = record { sleeps = s; due = due; gap = gap }
+
+-- each part by itself
+by-parts :
+    (s ref sre srx : Bool) (q a b c q′ a′ b′ c′ : ℕ)
+    → cond ref (debt s q q′) (cond sre (debt true a a′) (cond srx (debt false b b′) (debt s c c′)))
+    ≡ debt (cond ref s (cond sre true (cond srx false s))) (cond ref q (cond sre a (cond srx b c))) (cond ref q′ (cond sre a′ (cond srx b′ c′)))
+by-parts s true sre srx q a b c q′ a′ b′ c′ = refl
+by-parts s false true srx q a b c q′ a′ b′ c′ = refl
+by-parts s false false true q a b c q′ a′ b′ c′ = refl
+by-parts s false false false q a b c q′ a′ b′ c′ = refl
+
+module _ (C : Chip) (pos : 0 < C .trefi) (r : Record) (p : Past) (good : is Bad (r ∷ p) ≡ false) where
+  abbrev T : ℕ
+  T = C .trefi
+
+  alone : Alone (is Ref (r ∷ p)) (is Sre (r ∷ p)) (is Srx (r ∷ p))
+  alone y = (is-other Ref Sre (r ∷ p) (λ z. omega arith) y, is-other Ref Srx (r ∷ p) (λ z. omega arith) y)
+
+  pub debt-next :
+      owedTo (C .trefi) p ≤ 16 → owedTo (C .trefi) (r ∷ p) ≤ 16 → gapTo (r ∷ p) ≤ C .nine
+      → debtNext C (command (r ∷ p)) (edge (r ∷ p)) (debtOf C p) ≡ debtOf C (r ∷ p)
+  unfolding debtNext debtOf
+  debt-next small after near =
+      let moves = edge-next (edge p) (r .step) in
+      by-parts (asleep p) (is Ref (r ∷ p)) (is Sre (r ∷ p)) (is Srx (r ∷ p)) _ _ _ _ _ _ _ _
+      ∙ (λ i. debt (sleep-next (asleep p) (is Ref (r ∷ p)) (is Sre (r ∷ p)) (is Srx (r ∷ p)) alone i)
+      (moves (clocksLeft T p) (clocksLeft T (r ∷ p)) _ (asleep p) (is Ref (r ∷ p)) (is Sre (r ∷ p)) (is Srx (r ∷ p)) alone
+      (λ y. paid-by T (edge p) (r .step) (clocksLeft T p) (clocksLeft T (r ∷ p)) (asleep p) (left-ref pos r p small after y)) (left-other pos r p small after) i)
+      (moves (gapLeft (C .nine) p) (gapLeft (C .nine) (r ∷ p)) (cond (asleep p) 0 (edge p + r .step) + C .nine + 1) (asleep p) (is Ref (r ∷ p)) (is Sre (r ∷ p)) (is Srx (r ∷ p)) alone
+      (λ y. let z = gap-ref (C .nine) r p y in omega arith) (gap-other (C .nine) r p near) i))
+      ∙ ap (λ s. debt s (cond s 0 (edge (r ∷ p)) + clocksLeft T (r ∷ p)) (cond s 0 (edge (r ∷ p)) + gapLeft (C .nine) (r ∷ p))) (sym (sleeps-on r p good))

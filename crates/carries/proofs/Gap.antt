@@ -1,4 +1,4 @@
--- Rules 24, 25 and 28 over a gap and at a record's edge, by the summary: the deadlines are those of the rules' summary.
+-- Rules 24, 25, 28 and 31 over a gap and at a record's edge, by the summary: the deadlines are those of the rules' summary.
 -- Assumes nothing.
 use Prim.Native.Nat.{ℕ, zero, suc, _+_, _-_, _*_, _/_, _%_, _≤_, _<_}
 use native.Mathlib.Nat.{add-mul, mod-lt, le-div-iff-mul-le}
@@ -13,17 +13,16 @@ use borrow.Author.Tests.{leb-true, leb-false, le-leb, lt-leb}
 use Rattle.laws.specs.Eight.{table}
 use Rattle.laws.proofs.Eight.{getD-table, table-ext}
 use Rattle.answers.specs.declared.Break.the-variants.{Fine, Broken}
-use Rattle.answers.specs.Answer.{orElse}
 use Rattle.records.specs.declared.Record.{Record}
 use Rattle.records.specs.declared.Command.the-variants.{Ref}
 use Rattle.chip.specs.declared.Chip.{Chip}
 use Rattle.running.specs.declared.Late.{Late}
 use Rattle.running.specs.Marks.{empty}
 use Rattle.running.specs.Next.{due}
-use Rattle.running.specs.Late.{better, soonest, why, sooner, lateBy}
+use Rattle.running.specs.Late.{better, soonest, why, lateBy}
 use Rattle.running.specs.Deadlines as running
 use Rattle.edges.specs.Views.{keptOf}
-use Rattle.edges.specs.Says.{duesOf, next24, next25, next28, soonestOf, owing}
+use Rattle.edges.specs.Says.{duesOf, next24, next25, next28, next31, soonestOf, owing}
 use Rattle.rules.specs.Past.{Past, edge, number, cke, asleep, command, is, latest}
 use Rattle.rules.specs.Banks.{actOn}
 use Rattle.rules.specs.Deadlines.{awakeTo, owedTo}
@@ -32,13 +31,13 @@ use Rattle.rules.proofs.Generic.{decide}
 use Rattle.rules.proofs.Clean.{Clean}
 use Rattle.rules.proofs.Down.{down-is}
 use Rattle.rules.proofs.Debts as debts
-use Rattle.rules.proofs.Debts.{reaches, ahead, owed-step}
+use Rattle.rules.proofs.Debts.{gapTo, reaches, ahead, owed-step}
 use Rattle.rules.proofs.Dominate.{need4}
 use Rattle.rules.proofs.Summary as rules
 use Rattle.rules.proofs.Summary.{mark-at, kept, rests, shared}
 use Rattle.rules.proofs.Status.{mark-num}
-use Rattle.rules.proofs.Gap.{Due, now24, now25, now28, nowAny, due24, due25, due28, due-both}
-use Rattle.carries.proofs.Summary.{clocksLeft, debtOf, banksOf, deviceOf}
+use Rattle.rules.proofs.Gap.{Due, now24, now25, now28, now31, nowAny, due24, due25, due28, due31, due-both}
+use Rattle.carries.proofs.Summary.{clocksLeft, gapLeft, debtOf, banksOf, deviceOf}
 use Rattle.carries.proofs.Views.{kept-view}
 
 -- ── Rule 24 ─────────────────────────────────────────────────────────────────────────────────
@@ -79,17 +78,17 @@ module _ (C : Chip) (p : Past) where
   abbrev pub ref : ℕ
   ref = number (latest (is Ref) p)
 
-  pub next25-is : (hi : ℕ) → next25 (debtOf (C .trefi) p) ref hi ≡ running.next25 C (rules.summary C p) hi
+  -- where the part is awake x clocks are counted from the latest record
+  from-edge : (s : Bool) (hi x : ℕ) → cond s hi (cond s 0 (edge p) + x) ≡ cond s hi (edge p + x)
+  from-edge true hi x = refl
+  from-edge false hi x = refl
+
+  pub next25-is : (hi : ℕ) → next25 (debtOf C p) ref hi ≡ running.next25 C (rules.summary C p) hi
   unfolding running.next25 rules.summary shared rests debts.debtOf debtOf clocksLeft
-  next25-is hi = rw (mark-num (λ _. C .trfc) (latest (is Ref) p)) (ap late (go (asleep p)))
+  next25-is hi = rw (mark-num (λ _. C .trfc) (latest (is Ref) p)) (ap late (from-edge (asleep p) hi ((17 - owedTo (C .trefi) p) * C .trefi - awakeTo p % C .trefi)))
     where
       late : ℕ → Late
       late t = record { at = t; rule = 25; partner = ref; needed = 8; found = 9 }
-
-      go : (s : Bool) → cond s hi (cond s 0 (edge p) + ((17 - owedTo (C .trefi) p) * C .trefi - awakeTo p % C .trefi))
-          ≡ cond s hi (edge p + ((17 - owedTo (C .trefi) p) * C .trefi - awakeTo p % C .trefi))
-      go true = refl
-      go false = refl
 
   -- ── Rule 28 ───────────────────────────────────────────────────────────────────────────────
 
@@ -100,17 +99,24 @@ module _ (C : Chip) (p : Past) where
   unfolding running.next28 rules.summary shared rests debts.debtOf deviceOf
   next28-is hi = rw (mark-num (λ _. C .tcke) (turned p), mark-at (λ _. C .tcke) (turned p))
 
+  -- ── Rule 31 ───────────────────────────────────────────────────────────────────────────────
+
+  abbrev pub in31 : (hi : ℕ) → Late
+  in31 hi = next31 C (debtOf C p) ref hi
+
+  pub next31-is : (hi : ℕ) → next31 C (debtOf C p) ref hi ≡ running.next31 C (rules.summary C p) hi
+  unfolding running.next31 rules.summary shared rests debts.debtOf debtOf gapLeft
+  next31-is hi = rw (mark-num (λ _. C .trfc) (latest (is Ref) p)) (ap (λ u. lateBy 31 u ref (C .nine)) (from-edge (asleep p) hi (C .nine + 1 - gapTo p)))
+
   module _ (pos : 0 < C .trefi) (small : owedTo (C .trefi) p ≤ 16) where
-    -- all three, by number
-    pub due-next : Clean C p → (down p ≡ true → edge p ≤ edge (turned p) + C .stay) → (hi : ℕ)
-        → Due (nowAny C p) (edge p) hi (soonestOf (next24 C (banksOf C p) (edge p) hi) (next25 (debtOf (C .trefi) p) ref hi) (in28 hi))
-    due-next h near hi =
-        rw (next24-is hi, next25-is hi, next28-is hi)
-        (due-both (now24 C p) (λ t. orElse (now25 C p t) (now28 C p t)) (edge p) hi (running.next24 C (rules.summary C p) hi)
-        (sooner (running.next25 C (rules.summary C p) hi) (running.next28 C (rules.summary C p) hi))
-        (due24 C p hi)
-        (due-both (now25 C p) (now28 C p) (edge p) hi (running.next25 C (rules.summary C p) hi) (running.next28 C (rules.summary C p) hi)
-        (due25 C p pos small hi) (due28 C p (down-is C p h) near hi)))
+    -- all four, by number
+    pub due-next : Clean C p → (down p ≡ true → edge p ≤ edge (turned p) + C .nine) → gapTo p ≤ C .nine → (hi : ℕ)
+        → Due (nowAny C p) (edge p) hi (soonestOf (next24 C (banksOf C p) (edge p) hi) (next25 (debtOf C p) ref hi) (in28 hi) (in31 hi))
+    due-next h near close hi =
+        rw (next24-is hi, next25-is hi, next28-is hi, next31-is hi)
+        (due-both (now24 C p) _ (edge p) hi (running.next24 C (rules.summary C p) hi) _ (due24 C p hi)
+        (due-both (now25 C p) _ (edge p) hi (running.next25 C (rules.summary C p) hi) _ (due25 C p pos small hi)
+        (due-both (now28 C p) (now31 C p) (edge p) hi (running.next28 C (rules.summary C p) hi) (running.next31 C (rules.summary C p) hi) (due28 C p (down-is C p h) near hi) (due31 C p close hi))))
 
     -- at a record's edge, up to which no deadline passed: what is owed after the record
     abbrev T : ℕ
@@ -166,8 +172,8 @@ module _ (C : Chip) (p : Past) where
         rw n (sym (below x (o + (f + x) / T - 0) m (omega arith) (omega arith))))
         (decide (leb (edge p + ((17 - o) * T - f)) (edge p + x)))
 
-    pub owing-is : (r : Record) → edge (r ∷ p) ≤ next25 (debtOf (C .trefi) p) ref (edge (r ∷ p) + 1) .at
-        → owing (command (r ∷ p)) (edge (r ∷ p)) (next25 (debtOf (C .trefi) p) ref (edge (r ∷ p) + 1))
+    pub owing-is : (r : Record) → edge (r ∷ p) ≤ next25 (debtOf C p) ref (edge (r ∷ p) + 1) .at
+        → owing (command (r ∷ p)) (edge (r ∷ p)) (next25 (debtOf C p) ref (edge (r ∷ p) + 1))
         ≡ running.owing (owedTo (C .trefi) (r ∷ p)) (number (latest (is Ref) (r ∷ p)))
     unfolding debtOf clocksLeft
     owing-is r l =

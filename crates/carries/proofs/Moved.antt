@@ -16,7 +16,8 @@ use Rattle.rules.specs.Past.{Past, edge, number, asleep}
 use Rattle.rules.specs.Deadlines.{awakeTo, owedTo}
 use Rattle.rules.specs.Waiting.{asks, wait}
 use Rattle.rules.proofs.Clean.{Clean, clean-tail, not-bad}
-use Rattle.carries.proofs.Summary.{turnOf, ring, actsOf, clocksLeft, debtOf, banksOf, waitsOf, deviceOf, summary}
+use Rattle.rules.proofs.Debts.{gapTo}
+use Rattle.carries.proofs.Summary.{turnOf, ring, actsOf, clocksLeft, gapLeft, debtOf, banksOf, waitsOf, deviceOf, summary}
 use Rattle.carries.proofs.Views.{regs-view}
 use Rattle.carries.proofs.Moves.{banks-next, acts-next, device-next}
 use Rattle.carries.proofs.Asks.{waits-next}
@@ -25,14 +26,14 @@ use Rattle.carries.proofs.Debts.{debt-next}
 -- a clean record takes the summary of the past to the summary with it
 pub moved-summary :
     (C : Chip) → 0 < C .trefi → (r : Record) (p : Past) → Clean C (r ∷ p) → owedTo (C .trefi) p ≤ 16 → owedTo (C .trefi) (r ∷ p) ≤ 16
-    → movedOf C (summary C p) r ≡ summary C (r ∷ p)
+    → gapTo (r ∷ p) ≤ C .nine → movedOf C (summary C p) r ≡ summary C (r ∷ p)
 unfolding movedOf summary debtOf
-moved-summary C pos r p h small after = rw (regs-view C p) (λ i. record {
+moved-summary C pos r p h small after near = rw (regs-view C p) (λ i. record {
   edge = edge (r ∷ p);
   count = number (r ∷ p);
   first = noVerdict;
   level = r .cke;
-  debt = debt-next C pos r p (not-bad C r p h) small after i;
+  debt = debt-next C pos r p (not-bad C r p h) small after near i;
   banks = banks-next r p C i;
   waits = waits-next C r p (clean-tail C r p h) i;
   acts = acts-next r p i;
@@ -41,14 +42,14 @@ moved-summary C pos r p h small after = rw (regs-view C p) (λ i. record {
 
 -- before the first record
 pub summary-fresh : (C : Chip) → startRank C ≡ summary C []
-unfolding summary banksOf waitsOf actsOf deviceOf debtOf clocksLeft table ring turnOf asleep awakeTo owedTo wait asks freshRank freshBanks freshWaits
+unfolding summary banksOf waitsOf actsOf deviceOf debtOf clocksLeft gapLeft gapTo table ring turnOf asleep awakeTo owedTo wait asks freshRank freshBanks freshWaits
     freshActs freshDevice
 summary-fresh C = λ i. record {
   edge = 0;
   count = 0;
   first = noVerdict;
   level = true;
-  debt = record { sleeps = false; due = due i };
+  debt = record { sleeps = false; due = due i; gap = gap i };
   banks = freshBanks;
   waits = freshWaits;
   acts = freshActs;
@@ -57,3 +58,6 @@ summary-fresh C = λ i. record {
   where
     due : 9 * C .trefi ≡ 0 + ((17 - 8) * C .trefi - 0 % C .trefi)
     due = omega (arith, zero-mod (C .trefi))
+
+    gap : C .nine + 1 ≡ 0 + (C .nine + 1 - (0 - 0))
+    gap = omega arith

@@ -20,6 +20,7 @@ use Rattle.rules.specs.Down.{turned, slowExit}
 use Rattle.rules.specs.Deadlines.{awakeTo, owedTo}
 use Rattle.rules.specs.Waiting.{wait}
 use Rattle.rules.proofs.Dominate.{need4, need10, need11, need13, need14, need18, need19}
+use Rattle.rules.proofs.Debts.{gapTo}
 use Rattle.rules.proofs.Summary.{rdOn, wrOn}
 
 -- something of an event; 0 of none
@@ -67,8 +68,17 @@ eachRegister f = f 0 ∷ f 1 ∷ f 2 ∷ f 3 ∷ []
 unfoldable pub clocksLeft : (trefi : ℕ) → Past → ℕ
 clocksLeft T p = (17 - owedTo T p) * T - awakeTo p % T
 
-unfoldable pub debtOf : (trefi : ℕ) → Past → Debt
-debtOf T p = record { sleeps = asleep p; due = cond (asleep p) 0 (edge p) + clocksLeft T p }
+-- and until the last REF is too far back
+unfoldable pub gapLeft : (nine : ℕ) → Past → ℕ
+gapLeft m p = m + 1 - gapTo p
+
+unfoldable pub debtOf : Chip → Past → Debt
+debtOf C p =
+    record {
+      sleeps = asleep p;
+      due = cond (asleep p) 0 (edge p) + clocksLeft (C .trefi) p;
+      gap = cond (asleep p) 0 (edge p) + gapLeft (C .nine) p;
+    }
 
 -- ── The state ───────────────────────────────────────────────────────────────────────────────
 
@@ -118,7 +128,7 @@ module _ (C : Chip) where
         count = number p;
         first = noVerdict;
         level = cke p;
-        debt = debtOf (C .trefi) p;
+        debt = debtOf C p;
         banks = banksOf p;
         waits = waitsOf p;
         acts = actsOf p;

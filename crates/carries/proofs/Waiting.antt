@@ -1,26 +1,20 @@
 -- The waiting times that the state keeps after any recording are those that are promised.
 -- Assumes nothing.
-use Prim.Native.Nat.{ℕ, _-_, _≤_, _<_}
+use Prim.Native.Nat.{ℕ, _-_, _<_}
 use native.Mathlib.Omega.{arith}
 use mathlib.Core.Path.{_≡_, refl, sym, _∙_}
-use mathlib.Core.Logic.{⊎-elim}
-use mathlib.Core.Bool.{true, false}
-use mathlib.Core.List.{[], _∷_}
-use lib.Dec.{leb}
-use borrow.Author.Tests.{leb-true, leb-false}
 use Rattle.laws.proofs.Eight.{getD-table, getD-first, getD-second}
 use Rattle.answers.specs.declared.Verdict.{Verdict}
 use Rattle.records.specs.declared.Command.{Command}
 use Rattle.records.specs.declared.Command.the-variants.{Mrs, Ref, Pre, Act, Wr, Rd, Zq, Nop, Des, Sre, Srx, Low, Bad, Pde, Pdx}
 use Rattle.chip.specs.declared.Chip.{Chip}
-use Rattle.rules.specs.Past.{Past, edge, upTo}
+use Rattle.rules.specs.Past.{Past, edge}
 use Rattle.rules.specs.Verdict.{Outcome, clean, stop, verdictTo, rest, Apart}
 use Rattle.rules.specs.Waiting.{asks, wait}
-use Rattle.rules.proofs.Generic.{decide}
 use Rattle.rules.proofs.Clean.{Clean}
 use Rattle.rules.proofs.Facts.{Sound}
-use Rattle.rules.proofs.Sense.{clean-edges, clean-iff, earliest}
-use Rattle.rules.proofs.Edges.{verdict-same, clean-past}
+use Rattle.rules.proofs.Sense.{clean-iff, earliest}
+use Rattle.rules.proofs.Edges.{clean-up-to}
 use Rattle.rules.proofs.Waiting.{waits-afresh}
 use Rattle.rules.proofs.Allowing.{waits-allow}
 use Rattle.carries.specs.Waited.{timeOf, standing, Waited}
@@ -32,20 +26,8 @@ use Rattle.carries.proofs.Whole.{frozen, carriedBy, carried}
 -- ── The records that are kept are clean ─────────────────────────────────────────────────────
 
 module _ (C : Chip) where
-  -- clean up to an edge is clean up to each edge before it
-  earlier : (p : Past) (u t : ℕ) → t ≤ u → verdictTo C p u ≡ clean → verdictTo C p t ≡ clean
-  earlier p u t l z = clean-iff C p t .1 (λ s a b. clean-edges C p u z s a (omega arith))
-
-  clean-up-to : (u : ℕ) (p : Past) → Apart p → verdictTo C p u ≡ clean → Clean C (upTo u p)
-  clean-up-to u [] apart z = refl
-  clean-up-to u (r ∷ p) apart z = ⊎-elim
-      (λ (y : leb (edge (r ∷ p)) u ≡ true). rw y (clean-past C (r ∷ p) apart (earlier (r ∷ p) u (edge (r ∷ p)) (leb-true (edge (r ∷ p)) u y) z)))
-      (λ (n : leb (edge (r ∷ p)) u ≡ false).
-      rw n (clean-up-to u p (apart .1) (sym (verdict-same C r p u (leb-false (edge (r ∷ p)) u n)) ∙ z)))
-      (decide (leb (edge (r ∷ p)) u))
-
   pub clean-standing : (p : Past) → Apart p → Clean C (standing C p)
-  clean-standing p apart = clean-up-to (rest (verdictTo C p (edge p)) (edge p)) p apart (go (verdictTo C p (edge p)) refl)
+  clean-standing p apart = clean-up-to C (rest (verdictTo C p (edge p)) (edge p)) p apart (go (verdictTo C p (edge p)) refl)
     where
       go : (v : Outcome) → verdictTo C p (edge p) ≡ v → verdictTo C p (rest v (edge p)) ≡ clean
       go clean z = z

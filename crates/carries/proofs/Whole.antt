@@ -18,7 +18,8 @@ use Rattle.rules.specs.Past.{Past, edge, number, cke, upTo}
 use Rattle.rules.specs.Verdict.{Outcome, clean, stop, verdictTo, shown, verdictSoFar, rest, Apart, Steps}
 use Rattle.rules.proofs.Facts.{Sound}
 use Rattle.rules.proofs.Sense.{stays-to, stop-at, stop-after}
-use Rattle.rules.proofs.Edges.{up-to-all, up-to-skip, up-to-before, verdict-same, clean-past, small-owed}
+use Rattle.rules.proofs.UpTo.{up-to-all, up-to-skip, up-to-before}
+use Rattle.rules.proofs.Edges.{verdict-same, clean-past, small-owed, near-ref}
 use Rattle.rules.proofs.Turn.{said}
 use Rattle.carries.proofs.Summary.{actsOf, debtOf, banksOf, waitsOf, deviceOf, summary}
 use Rattle.carries.proofs.Moved.{moved-summary, summary-fresh}
@@ -32,7 +33,7 @@ frozen C p q v =
       count = number p;
       first = v;
       level = cke q;
-      debt = debtOf (C .trefi) q;
+      debt = debtOf C q;
       banks = banksOf C q;
       waits = waitsOf C q;
       acts = actsOf q;
@@ -76,6 +77,7 @@ module _ (C : Chip) (S : Sound C) where
       go clean e =
           let pos = S .refi-least in
           moved-summary C pos r p (clean-past C (r ∷ p) (far, apart) e) (small-owed C pos p apart z) (small-owed C pos (r ∷ p) (far, apart) e)
+          (near-ref C (r ∷ p) (far, apart) e)
           ∙ sym (carried-clean C (r ∷ p))
       go (stop t n b) e =
           let w = stop-at C (r ∷ p) (edge (r ∷ p)) t n b e in

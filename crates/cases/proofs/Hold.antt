@@ -22,7 +22,7 @@ use Rattle.answers.specs.Answer.{orElse, lowest}
 use Rattle.rules.specs.Past.{asleep}
 use Rattle.rules.specs.Down.{precharged, slowExit}
 use Rattle.rules.specs.Rules.{toEntry}
-use Rattle.rules.specs.Deadlines.{awakeTo, awakeAt, owedTo, owedAt}
+use Rattle.rules.specs.Deadlines.{awakeTo, awakeAt, owedTo, owedAt, sinceRef}
 use Rattle.rules.specs.Verdict.{keep}
 use Rattle.answers.specs.declared.Verdict.{Verdict}
 use Rattle.sections.specs.Recording.{recordsRefusal, wholeRefusal, wholeVerdict}
@@ -37,15 +37,15 @@ use Rattle.cases.proofs.Early.{early, judged-early}
 -- ── P8, P9, P10 ─────────────────────────────────────────────────────────────────────────────
 
 p8 : Holds (judged (recorded bytesP8) 529 (broken 10 7 6 529 5 4))
-unfolding up down binOf headerWord fieldsRefusal headerRefusal word48 clOfCode wrOfCode al spanOf clFits cwlFor table0 table1 table2 table3 fieldsIn firstBad badBit allowed recordFields byPins falling rising commandOf chipOf hOf bOf regs start seen orElse lowest asleep awakeTo awakeAt owedTo owedAt precharged slowExit toEntry keep early recordsRefusal wholeRefusal
+unfolding up down binOf headerWord fieldsRefusal headerRefusal word48 clOfCode wrOfCode al spanOf clFits cwlFor table0 table1 table2 table3 fieldsIn firstBad badBit allowed recordFields byPins falling rising commandOf chipOf hOf bOf regs start seen orElse lowest asleep awakeTo awakeAt owedTo owedAt sinceRef precharged slowExit toEntry keep early recordsRefusal wholeRefusal
 p8 = judged-whole bytesP8 529 _ refl (judged-early headerP1 bytesP8 529 _ refl refl)
 
 p9 : Holds (judged (recorded bytesP9) 530 (clean 7 530))
-unfolding up down binOf headerWord fieldsRefusal headerRefusal word48 clOfCode wrOfCode al spanOf clFits cwlFor table0 table1 table2 table3 fieldsIn firstBad badBit allowed recordFields byPins falling rising commandOf chipOf hOf bOf regs start seen orElse lowest asleep awakeTo awakeAt owedTo owedAt precharged slowExit toEntry keep early recordsRefusal wholeRefusal
+unfolding up down binOf headerWord fieldsRefusal headerRefusal word48 clOfCode wrOfCode al spanOf clFits cwlFor table0 table1 table2 table3 fieldsIn firstBad badBit allowed recordFields byPins falling rising commandOf chipOf hOf bOf regs start seen orElse lowest asleep awakeTo awakeAt owedTo owedAt sinceRef precharged slowExit toEntry keep early recordsRefusal wholeRefusal
 p9 = judged-whole bytesP9 530 _ refl (judged-early headerP1 bytesP9 530 _ refl refl)
 
 p10 : Holds (judged (recorded bytesP10) 539 (broken 5 9 8 539 9 5))
-unfolding up down binOf headerWord fieldsRefusal headerRefusal word48 clOfCode wrOfCode al spanOf clFits cwlFor table0 table1 table2 table3 fieldsIn firstBad badBit allowed recordFields byPins falling rising commandOf chipOf hOf bOf regs start seen orElse lowest asleep awakeTo awakeAt owedTo owedAt precharged slowExit toEntry keep early recordsRefusal wholeRefusal
+unfolding up down binOf headerWord fieldsRefusal headerRefusal word48 clOfCode wrOfCode al spanOf clFits cwlFor table0 table1 table2 table3 fieldsIn firstBad badBit allowed recordFields byPins falling rising commandOf chipOf hOf bOf regs start seen orElse lowest asleep awakeTo awakeAt owedTo owedAt sinceRef precharged slowExit toEntry keep early recordsRefusal wholeRefusal
 p10 = judged-whole bytesP10 539 _ refl (judged-early headerP1 bytesP10 539 _ refl refl)
 
 -- the line that the program prints, by its theorem: that of the verdict
@@ -77,4 +77,5 @@ examples-hold =
     refl also refl also refl also refl also refl also refl also refl also refl also refl
     also refl also refl also refl also refl also refl also refl also refl also refl
     also refl also refl also refl also refl also refl also refl also refl also refl
-    also refl also p8 also p8-line also p9 also p9-line also p10 also p10-line also far-hold
+    also refl also p8 also p8-line also p9 also p9-line also p10 also p10-line
+    also far-hold .0 also far-hold .1 also far-hold .2 also far-hold .3 also refl also refl also refl also refl also far-hold .4 also far-hold .5 also tt

@@ -46,7 +46,7 @@ use Rattle.sections.specs.Sections.{refusal}
 use Rattle.sections.proofs.Section.{fits}
 use Rattle.sections.proofs.Sections.{judged-verdict}
 use Rattle.cases.specs.Case.{Holds, judged}
-use Rattle.cases.specs.Table.{headerP1, recorded, bytesP12, broken, clean}
+use Rattle.cases.specs.Table.{headerP1, recorded, bytesP12, bytesQ2, broken, clean}
 
 pub judged-running :
     (header : List ℕ) (h : Header) → parsedOf header ≡ Taken h → (bytes : List ℕ) → refusal 0 bytes ≡ 0 → (end : ℕ)
@@ -70,16 +70,15 @@ far : (bytes : List ℕ) → refusal 0 bytes ≡ 0 → (end : ℕ) → leb (edge
 far bytes taken end late within v answer = judged-running (recorded []) headerP1 headerP1-taken bytes taken end late within v answer
 
 pub far-hold :
-    Holds (judged (recorded []) 46799 (clean 0 46799)) × (Holds (judged (recorded []) 46800 (broken 25 0 0 46800 8 9))
-    × (Holds (judged (recorded bytesP12) 46691 (clean 5 46691)) × (Holds (judged (recorded bytesP12) 46692 (broken 24 0 5 46692 46666 46667)) × Unit {0})))
+    Holds (judged (recorded []) 46799 (clean 0 46799)) × Holds (judged (recorded []) 46800 (broken 25 0 0 46800 8 9))
+    × Holds (judged (recorded bytesP12) 46691 (clean 5 46691)) × Holds (judged (recorded bytesP12) 46692 (broken 24 0 5 46692 46666 46667))
+    × Holds (judged (recorded bytesQ2) 46801 (clean 1 46801)) × Holds (judged (recorded bytesQ2) 46802 (broken 31 0 1 46802 46800 46801))
 unfolding wholeRefusal recordsRefusal headerWord fieldsRefusal headerRefusal up down binOf word48 clOfCode wrOfCode al spanOf clFits cwlFor table0 table1 table2 table3 fieldsIn firstBad badBit allowed fieldsOf byPins falling rising commandOf chipOf hOf bOf orElse lowest table statusOf rule2 rule3 waits spacings needing spaced better soonest sooner startNow due noEnd keptOf latestFrom lastStart readOf wroteOf shutOf restsOf sharedOf asksAct asksRd asksWr asksPre asksRef asksMrs asksSre waitsNext greatest banksNext actsNext anyOf noneOpen slowNow deviceNext debtNext duesOf next24 spacedIn brokenIn laterOf latestOf rule26 exitRules changedIn leftIn saysBy saysOf movedOf stoppedOf stepOf soFar edgesOk rankInRange freshBanks freshWaits freshActs freshDevice freshRank nextLate verdictOf endOf inRange sectionOf closeOf
 far-hold = (
   judged-whole [] 46799 _ refl (far [] refl 46799 refl refl _ refl),
-  (
-    judged-whole [] 46800 _ refl (far [] refl 46800 refl refl _ refl),
-    (
-      judged-whole bytesP12 46691 _ refl (far bytesP12 refl 46691 refl refl _ refl),
-      (judged-whole bytesP12 46692 _ refl (far bytesP12 refl 46692 refl refl _ refl), tt),
-    ),
-  ),
+  judged-whole [] 46800 _ refl (far [] refl 46800 refl refl _ refl),
+  judged-whole bytesP12 46691 _ refl (far bytesP12 refl 46691 refl refl _ refl),
+  judged-whole bytesP12 46692 _ refl (far bytesP12 refl 46692 refl refl _ refl),
+  judged-whole bytesQ2 46801 _ refl (far bytesQ2 refl 46801 refl refl _ refl),
+  judged-whole bytesQ2 46802 _ refl (far bytesQ2 refl 46802 refl refl _ refl),
 )

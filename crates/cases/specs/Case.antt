@@ -8,7 +8,7 @@ use Prim.Native.String.{String}
 use Rattle.header.specs.declared.Header.{Header}
 use Rattle.header.specs.declared.Parsed.the-variants.{Taken}
 use Rattle.header.specs.Bytes.{parsedOf}
-use Rattle.header.specs.Counts.{tRCD, tRP, tRC, tRAS, tRRD, tFAW, tRTP, tWR, tRFC, tMOD, tXS, tREFI}
+use Rattle.header.specs.Counts.{tRCD, tRP, tRC, tRAS, tRRD, tFAW, tRTP, tWR, tRFC, tMOD, tXS, mostRAS, tREFI}
 use Rattle.registers.specs.Allowed.{allowed}
 use Rattle.registers.specs.Reading.{decodedOf, answerOf}
 use Rattle.bursts.specs.Burst.{orderOf}
@@ -26,6 +26,8 @@ countsOf h =
 pub data Case : Type 0 where
   -- the clock counts of a header
   counts : (h : Header) (clocks : List ℕ) → Case
+  -- the greatest tRAS of a header, in clocks
+  limit : (h : Header) (clocks : ℕ) → Case
   -- the words of a burst
   burst : (length start kind direction : ℕ) (words : List ℕ) → Case
   -- a code that is allowed, and what register reading gives for it
@@ -41,6 +43,7 @@ pub data Case : Type 0 where
 
 abbrev pub Holds : Case → Type 0
 Holds (counts h clocks) = countsOf h ≡ clocks
+Holds (limit h n) = mostRAS h .clocks ≡ n
 Holds (burst length start kind direction words) = orderOf length start kind direction ≡ words
 Holds (reads h number code fields) = answerOf (decodedOf h number code) ≡ record { number = 0; bytes = fields }
 Holds (permits h number code answer) = allowed h number code ≡ answer

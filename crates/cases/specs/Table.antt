@@ -1,4 +1,4 @@
--- 01, "Examples (P: proved)": P1 to P12.
+-- 01, "Examples (P: proved)": P1 to P12; and of 02, Q-2, what no recording can show, and the least that breaks its rule.
 -- Assumes nothing.
 use Prim.Native.Nat.{ℕ}
 use mathlib.Core.Bool.{true, false}
@@ -6,7 +6,7 @@ use mathlib.Core.List.{List, [], _∷_}
 use Rattle.header.specs.declared.Header.{Header}
 use Rattle.answers.specs.declared.Verdict.{Verdict}
 use Rattle.answers.specs.Answer.{bytes6}
-use Rattle.cases.specs.Case.{Case, counts, burst, reads, permits, opens, judged, printed}
+use Rattle.cases.specs.Case.{Case, counts, limit, burst, reads, permits, opens, judged, printed}
 
 -- "P1 bin 1, 1500, 1 Gb x8"
 abbrev pub headerP1 : Header
@@ -45,6 +45,14 @@ bytesP10 = firstSix (bytes6 0x000005930000 (bytes6 0x000004930000 (bytes6 0x0000
 -- "P12 P8's first five records"
 abbrev pub bytesP12 : List ℕ
 bytesP12 = firstFive []
+
+-- Q-2: P1's part and P2's, hot
+abbrev pub hotter : Header → Header
+hotter h = record { bin = h .bin; dense = h .dense; wide = h .wide; hot = true; period = h .period }
+
+-- a REF at edge 1, and then nothing
+abbrev pub bytesQ2 : List ℕ
+bytesQ2 = bytes6 0x000001880000 []
 
 -- "broken 10 7 6 529 5 4 (rule, record, partner, edge, needed, found)"
 abbrev pub broken : (rule number partner edge needed found : ℕ) → Verdict
@@ -96,4 +104,9 @@ table =
     -- "P12 P8's first five records: clean at end 46691, broken by 24 at 46692"
     ∷ judged (recorded bytesP12) 46691 (clean 5 46691)
     ∷ judged (recorded bytesP12) 46692 (broken 24 0 5 46692 46666 46667)
+    -- Q-2: "a hot part has 35,100,000 ps, not 70,000,000", rounded down by itself: nine times tREFI's clocks are 32796 at 1070 ps
+    ∷ limit headerP1 46666 ∷ limit (hotter headerP1) 23400 ∷ limit headerP2 65420 ∷ limit (hotter headerP2) 32803
+    -- Q-2: "broken one edge past nine times tREFI's clocks", from the last REF; from edge 0 25 is broken one edge before
+    ∷ judged (recorded bytesQ2) 46801 (clean 1 46801)
+    ∷ judged (recorded bytesQ2) 46802 (broken 31 0 1 46802 46800 46801)
     ∷ []

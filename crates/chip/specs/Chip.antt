@@ -1,7 +1,7 @@
 -- A header's clock counts as plain numbers.
 -- Assumes nothing.
 use Rattle.header.specs.declared.Header.{Header}
-use Rattle.header.specs.Counts.{tRCD, tRP, tRC, tRAS, tRRD, tFAW, tCKE, tRTP, tWTR, tWR, tMOD, tRFC, tXS, zqLong, zqShort, mostRAS, tREFI, tXP, tXPDLL, mostDown}
+use Rattle.header.specs.Counts.{tRCD, tRP, tRC, tRAS, tRRD, tFAW, tCKE, tRTP, tWTR, tWR, tMOD, tRFC, tXS, zqLong, zqShort, mostRAS, tREFI, tXP, tXPDLL, nineREFI}
 use Rattle.chip.specs.declared.Chip.{Chip}
 
 unfoldable pub chipOf : Header → Chip
@@ -27,5 +27,5 @@ chipOf h =
       trefi = tREFI h .clocks;
       txp = tXP h .clocks;
       txpdll = tXPDLL h .clocks;
-      stay = mostDown h .clocks;
+      nine = nineREFI h .clocks;
     }

@@ -32,7 +32,7 @@ pub struct Chip {
     pub trefi: u32,
     pub txp: u32,
     pub txpdll: u32,
-    pub stay: u32,
+    pub nine: u32,
 }
 
 // The codes last written to the mode registers; 0 where there is none.

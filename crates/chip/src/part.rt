@@ -30,7 +30,7 @@ pub fn chip_of(h: Header) -> Chip
         trefi: plain(h.trefi()),
         txp: plain(h.txp()),
         txpdll: plain(h.txpdll()),
-        stay: plain(h.mostdown()),
+        nine: plain(h.ninerefi()),
     }
 }
 

@@ -60,27 +60,29 @@ none-next nums n b h less here = record { seen = λ i l. go i l (ltb i b) refl; 
 pub owing-by : (D : Debt) (x : ℕ) → Owing D (owingBy D x)
 owing-by D x = go (D .sleeps) refl
   where
-    go : (z : Bool) → D .sleeps ≡ z → Owing D (cond z x (min x (D .due)))
+    go : (z : Bool) → D .sleeps ≡ z → Owing D (cond z x (min (min x (D .due)) (D .gap)))
     go true e = inl e
-    go false e = inr (omega arith)
+    go false e = inr (omega arith, omega arith)
 
 pub owing-below : (D : Debt) (x : ℕ) → owingBy D x ≤ x
 owing-below D x = go (D .sleeps)
   where
-    go : (z : Bool) → cond z x (min x (D .due)) ≤ x
+    go : (z : Bool) → cond z x (min (min x (D .due)) (D .gap)) ≤ x
     go true = omega arith
     go false = omega arith
 
 module _ (m s : ℕ) (c : Command) (e at : ℕ) (D : Debt) (x : ℕ) where
-  pub next-owed : (isA Srx c ≡ false → Owing D x) → Owing D (clearNext m s c e at D x)
+  pub next-owed : (isA Ref c ≡ false → isA Srx c ≡ false → Owing D x) → Owing D (clearNext m s c e at D x)
   unfolding clearNext
-  next-owed h = go (isA Ref c || isA Pre c) (isA Srx c) refl (isA Pde c)
+  next-owed h = go (isA Ref c) refl (isA Pre c) (isA Srx c) refl (isA Pde c)
     where
-      go : (a b : Bool) → isA Srx c ≡ b → (d : Bool) → Owing D (cond a (owingBy D (e + m + 1)) (cond b (owingBy D x) (cond d (min x (at + s + 1)) x)))
-      go true b u d = owing-by D (e + m + 1)
-      go false true u d = owing-by D x
-      go false false u true = ⊎-elim inl (λ y. inr (omega (arith, y))) (h u)
-      go false false u false = h u
+      go : (a : Bool) → isA Ref c ≡ a → (p b : Bool) → isA Srx c ≡ b → (d : Bool)
+          → Owing D (cond (a || p) (owingBy D (e + m + 1)) (cond b (owingBy D x) (cond d (min x (at + s + 1)) x)))
+      go true k p b u d = owing-by D (e + m + 1)
+      go false k true b u d = owing-by D (e + m + 1)
+      go false k false true u d = owing-by D x
+      go false k false false u true = ⊎-elim inl (λ y. inr (omega (arith, y .0), omega (arith, y .1))) (h k u)
+      go false k false false u false = h k u
 
   pub next-near : x ≤ e + m + 1 → clearNext m s c e at D x ≤ e + m + 1
   unfolding clearNext

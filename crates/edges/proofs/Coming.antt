@@ -117,7 +117,7 @@ module _ (C : Chip) (d : Rest) (t : Track) (r : Record) where
     none-due b l = ⊎-elim (λ x. inl x) (λ x. inr (omega (arith, x, before))) (free .due b l)
 
     not-owed : NotOwed (d .debt) e
-    not-owed = ⊎-elim (λ x. inl x) (λ x. inr (omega (arith, x, before))) (free .owed)
+    not-owed = ⊎-elim (λ x. inl x) (λ x. inr (omega (arith, x .0, before), omega (arith, x .1, before))) (free .owed)
 
     not-long : NotLong C (rankOf d t) e
     unfolding settled

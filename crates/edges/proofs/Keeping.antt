@@ -1,6 +1,6 @@
 -- What a seldom command leaves alone, and the edge before which no deadline passes behind it.
 -- Assumes nothing.
-use Prim.Native.Nat.{ℕ, _+_, _-_, _*_, _%_, _≤_, min}
+use Prim.Native.Nat.{ℕ, _+_, _-_, _%_, min}
 use native.Mathlib.Omega.{arith}
 use mathlib.Core.Bool.{Bool, true, false, cond, not, _&&_, _||_, true≢false}
 use mathlib.Core.List.{List}
@@ -24,7 +24,7 @@ use Rattle.edges.specs.declared.Debt.{Debt}
 use Rattle.edges.specs.declared.Floor.{Floor}
 use Rattle.edges.specs.Views.{regsOf, CKE, PDX, SLOW}
 use Rattle.edges.specs.Asks.{need18}
-use Rattle.edges.specs.Next.{setIf, counting, paid, slowNow, stamped, debtNext, deviceNext, noneOpen}
+use Rattle.edges.specs.Next.{setIf, counting, slowNow, stamped, debtNext, deviceNext, noneOpen}
 use Rattle.edges.specs.Clearing.{Owing, Staying, owingBy, clearNext}
 use Rattle.edges.specs.Ways.{floorNext}
 use Rattle.edges.specs.Seldom.{AllIdle, MayCome}
@@ -40,22 +40,14 @@ pub same-regs : (C : Chip) (c : Command) (r : Record) (e n : ℕ) (slow : Bool) 
 unfolding deviceNext
 same-regs C c r e n slow D h = rw h
 
--- of the seldom commands only an SRX brings the debt's edge nearer
-pub kept-owed : (C : Chip) (c : Command) (e : ℕ) (x : Debt) (clear : ℕ) → isA Srx c ≡ false → Owing x clear → Owing (debtNext C c e x) clear
+-- of the seldom commands only a REF and an SRX move an edge of the debt
+pub kept-owed : (C : Chip) (c : Command) (e : ℕ) (x : Debt) (clear : ℕ) → isA Ref c ≡ false → isA Srx c ≡ false → Owing x clear → Owing (debtNext C c e x) clear
 unfolding debtNext
-kept-owed C c e x clear h o = go (isA Ref c) (isA Sre c) (isA Srx c) h
+kept-owed C c e x clear h k o = rw (h, k) (go (isA Sre c))
   where
-    later : (q : Bool) → clear ≤ x .due → clear ≤ cond q (x .due + C .trefi) (x .due)
-    later true y = omega (arith, y)
-    later false y = y
-
-    go : (a b d : Bool) → d ≡ false
-        → Owing (cond a (record { sleeps = x .sleeps; due = paid (C .trefi) (counting x e) (x .due) }) (cond b (record { sleeps = true; due = x .due - counting x e })
-        (cond d (record { sleeps = false; due = cond (x .sleeps) (x .due + e) (x .due) }) x))) clear
-    go true b d z = ⊎-elim inl (λ y. inr (later (leb (x .due) (counting x e + 16 * C .trefi)) y)) o
-    go false true d z = inl refl
-    go false false false z = o
-    go false false true z = absurd (true≢false z)
+    go : (b : Bool) → Owing (cond b (record { sleeps = true; due = x .due - counting x e; gap = x .gap - counting x e }) x) clear
+    go true = inl refl
+    go false = o
 
 -- of a command that is no exit it does not matter whether an exit would be slow
 pub slow-device : (C : Chip) (c : Command) (r : Record) (e n : ℕ) (x y : Bool) (D : Device) → (isA Pdx c ≡ true → x ≡ y) → deviceNext C c r e n x D ≡ deviceNext C c r e n y D
@@ -121,15 +113,15 @@ may-good h t Bad r e f an ca cn cp sa sn p hs a m k g w = absurd w
 pub kept-stays :
     (C : Chip) (c : Command) (r : Record) (e n : ℕ) (slow l : Bool) (x : Debt) (D : Device) (x′ : Debt) (D′ : Device) (at clear : ℕ)
     → c ≡ commandOf l (x .sleeps) r → isA Bad c ≡ false → x′ ≡ debtNext C c e x → D′ ≡ deviceNext C c r e n slow D → at ≡ getD (D′ .at) CKE 0
-    → Staying l (x .sleeps) (getD (D .at) CKE 0) (C .stay) clear
-    → Staying (r .cke) (x′ .sleeps) (getD (D′ .at) CKE 0) (C .stay) (clearNext (C .most) (C .stay) c e at x′ clear)
+    → Staying l (x .sleeps) (getD (D .at) CKE 0) (C .nine) clear
+    → Staying (r .cke) (x′ .sleeps) (getD (D′ .at) CKE 0) (C .nine) (clearNext (C .most) (C .nine) c e at x′ clear)
 unfolding commandOf falling debtNext deviceNext clearNext
 kept-stays C c r e n slow l x D x′ D′ at clear names good debt device turns st =
     go (r .cke) refl l refl (eqb (r .pins) 1) refl (leb 7 (r .pins)) refl
   where
     Stays : Bool → Type 0
-    Stays k = Staying k (x′ .sleeps) (getD (D′ .at) CKE 0) (C .stay) (cond (isA Ref c || isA Pre c) (owingBy x′ (e + C .most + 1))
-        (cond (isA Srx c) (owingBy x′ clear) (cond (isA Pde c) (min clear (at + C .stay + 1)) clear)))
+    Stays k = Staying k (x′ .sleeps) (getD (D′ .at) CKE 0) (C .nine) (cond (isA Ref c || isA Pre c) (owingBy x′ (e + C .most + 1))
+        (cond (isA Srx c) (owingBy x′ clear) (cond (isA Pde c) (min clear (at + C .nine + 1)) clear)))
 
     go : (k : Bool) → r .cke ≡ k → (b : Bool) → l ≡ b → (y : Bool) → eqb (r .pins) 1 ≡ y → (z : Bool) → leb 7 (r .pins) ≡ z → Stays k
     go true i b j y u z v = inl refl

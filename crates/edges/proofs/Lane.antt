@@ -45,14 +45,14 @@ by-the-codes {C = C} {w = w} h e = subst (λ (G : Regs). Asked C G w) e h
 -- by the arrays
 cleared : (C : Chip) (clear : ℕ) (d : Rest) (t : Track)
     → Clears (C .most) (t .banks .actat) (t .banks .actno) (t .banks .shutat) (t .banks .shutno) (t .edge) clear → clear ≤ t .edge + C .most + 1
-    → Owing (d .debt) clear → Staying (d .level) (d .debt .sleeps) (getD (d .device .at) CKE 0) (C .stay) clear → Clear C clear d t
+    → Owing (d .debt) clear → Staying (d .level) (d .debt .sleeps) (getD (d .device .at) CKE 0) (C .nine) clear → Clear C clear d t
 cleared C clear d t h near owed stays =
     record { due = λ b l. subst (Off (t .edge) clear) (sym (due-at C (t .banks) b l)) (h b l); near = near; owed = owed; stays = stays }
 
 -- the beginning
 pub lane-start : (C : Chip) (bytes : List ℕ) (from : ℕ) (l : Bool) (x : Debt) (h : List ℕ) (D : Device) (t : Track) (clear : ℕ) (real : Bool) (w : Asks)
     → Fit C bytes from x D t → Clears (C .most) (t .banks .actat) (t .banks .actno) (t .banks .shutat) (t .banks .shutno) (t .edge) clear
-    → clear ≤ t .edge + C .most + 1 → Owing x clear → Staying l (x .sleeps) (getD (D .at) CKE 0) (C .stay) clear → (real ≡ true → (b : ℕ) → b < 8 → getD (t .banks .actno) b 0 ≤ t .count) → Asked C (regsOf D) w
+    → clear ≤ t .edge + C .most + 1 → Owing x clear → Staying l (x .sleeps) (getD (D .at) CKE 0) (C .nine) clear → (real ≡ true → (b : ℕ) → b < 8 → getD (t .banks .actno) b 0 ≤ t .count) → Asked C (regsOf D) w
     → Laning C bytes from l x h D t clear real false w l x h D t from
 lane-start C bytes from l x h D t clear real w fit due near owed stays acting asked = record {
   each = λ v z k.
@@ -69,12 +69,12 @@ module _ {C : Chip} {bytes : List ℕ} {from : ℕ} {l₀ : Bool} {x₀ : Debt} 
     pub lane-base : Standing C 0 bytes at t
     lane-base = one .base
 
-    pub lane-due : x .due ≤ farEdge
-    lane-due = go (x .sleeps) (one .debt)
+    pub lane-due : (x .due ≤ farEdge) × (x .gap ≤ farEdge)
+    lane-due = (go (x .due) (x .sleeps) (one .debt .0), go (x .gap) (x .sleeps) (one .debt .1))
       where
-        go : (y : Bool) → x .due - cond y 0 (t .edge) ≤ farthest → x .due ≤ farEdge
-        go true k = omega (arith, k)
-        go false k = omega (arith, k, one .base .edge, one .base .room)
+        go : (d : ℕ) (y : Bool) → d - cond y 0 (t .edge) ≤ farthest → d ≤ farEdge
+        go d true k = omega (arith, k)
+        go d false k = omega (arith, k, one .base .edge, one .base .room)
 
     pub lane-turned : getD (D .at) CKE 0 ≤ lastEdge
     lane-turned = one .turned
@@ -237,7 +237,7 @@ module _ {C : Chip} {bytes : List ℕ} {from : ℕ} {l₀ : Bool} {x₀ : Debt} 
               e₁ = t .edge + r .step
 
               clear₁ : ℕ
-              clear₁ = clearNext (C .most) (C .stay) c e₁ (came .passes .turned) x′ clear
+              clear₁ = clearNext (C .most) (C .nine) c e₁ (came .passes .turned) x′ clear
 
               -- no bank comes due behind a REF or a PRE of all banks, and behind another none before the edge that was
               due : (a b : Bool) → isA Ref c ≡ a → isA Pre c ≡ b → NoneSoon C (t′ .banks) e₁ clear₁
@@ -254,15 +254,15 @@ module _ {C : Chip} {bytes : List ℕ} {from : ℕ} {l₀ : Bool} {x₀ : Debt} 
                   (getD (table (λ _. e₁)) b 0) (getD (table (λ _. t .count + 1)) b 0)
                   (omega (arith, g .acting (came .acts q) b k, getD-table (λ _. t .count + 1) b 0 k)) (omega (arith, getD-table (λ _. e₁) b 0 k))))
               due false false p q =
-                  λ b k. off-sooner e₁ clear clear₁ _ (next-below (C .most) (C .stay) c e₁ (came .passes .turned) x′ clear p q)
+                  λ b k. off-sooner e₁ clear clear₁ _ (next-below (C .most) (C .nine) c e₁ (came .passes .turned) x′ clear p q)
                   (same-soon C (t .banks) (t′ .banks) (t .edge) e₁ clear (omega arith) refl refl (sym (left .starts ∙ rw q)) (sym (left .closers ∙ rw q)) (g .free .due) b k)
 
               free : Clear C clear′ (restBy (r .cke) x′ h′ D′ v) t′
               free = subst (λ (z : ℕ). Clear C z (restBy (r .cke) x′ h′ D′ v) t′) (sym (came .passes .clears)) (record {
                 due = due (isA Ref c) (isA Pre c) refl refl;
-                near = next-near (C .most) (C .stay) c e₁ (came .passes .turned) x′ clear (omega (arith, g .free .near));
-                owed = next-owed (C .most) (C .stay) c e₁ (came .passes .turned) x′ clear
-                    (λ z. subst (λ (q : Debt). Owing q clear) (sym (left .debt)) (kept-owed C c e₁ x clear z (g .free .owed)));
+                near = next-near (C .most) (C .nine) c e₁ (came .passes .turned) x′ clear (omega (arith, g .free .near));
+                owed = next-owed (C .most) (C .nine) c e₁ (came .passes .turned) x′ clear
+                    (λ y z. subst (λ (q : Debt). Owing q clear) (sym (left .debt)) (kept-owed C c e₁ x clear y z (g .free .owed)));
                 stays = kept-stays C c r e₁ (t .count + 1) slow l x D x′ D′ (came .passes .turned) clear (came .names) good (left .debt) (left .device) (left .turns)
                     (g .free .stays);
               })

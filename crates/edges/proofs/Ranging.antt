@@ -28,11 +28,11 @@ use Rattle.laws.proofs.Both.{both}
 use Rattle.running.proofs.Ranging.{small-test}
 use Rattle.edges.specs.declared.Debt.{Debt}
 use Rattle.edges.specs.declared.Rank.{Rank}
-use Rattle.edges.specs.Next.{setIf, counting, paid, stamped, turnedTo, slowNow, deviceNext, debtNext, banksNext, actsNext}
+use Rattle.edges.specs.Next.{setIf, counting, paid, woken, stamped, turnedTo, slowNow, deviceNext, debtNext, banksNext, actsNext}
 use Rattle.edges.specs.Views.{REF, MRS, ZQ, SRE, SRX, DLL, CKE, PDX, SLOW}
 use Rattle.edges.specs.Says.{soonestOf, commandIn, saysBy, saysOf}
 use Rattle.edges.specs.Step.{movedOf, stoppedOf, stepOf, foldOf}
-use Rattle.edges.specs.Ranges.{edgesOk, farthest, rankInRange, Ranged}
+use Rattle.edges.specs.Ranges.{edgesOk, farthest, Near, rankInRange, Ranged}
 use Rattle.edges.specs.Ends.{takenOf, endOf, endedOf}
 
 -- ── The test and the facts ──────────────────────────────────────────────────────────────────
@@ -72,7 +72,7 @@ ranged s h =
     record {
       edge = n .1;
       count = n .0;
-      debt = leb-true _ _ (d .0);
+      debt = let w = both _ _ (d .0) in (leb-true _ _ (w .0), leb-true _ _ (w .1));
       turn = leb-true _ _ (t .0);
       broke = leb-true _ _ (f .0);
       turned = leb-true _ _ (k .0);
@@ -86,7 +86,8 @@ in-range s r =
     rw (
       le-ltb limit (s .count) (r .count),
       le-leb (s .edge) (s .count * 16777216) (r .edge),
-      le-leb (s .debt .due - counting (s .debt) (s .edge)) farthest (r .debt),
+      le-leb (s .debt .due - counting (s .debt) (s .edge)) farthest (r .debt .0),
+      le-leb (s .debt .gap - counting (s .debt) (s .edge)) farthest (r .debt .1),
       le-leb (s .acts .turn) 3 (r .turn),
       le-leb (s .first .edge) lastEdge (r .broke),
       le-leb (getD (s .device .at) CKE 0) lastEdge (r .turned),
@@ -107,25 +108,26 @@ first-edge e v w a b = go (isClean v)
     go true = b
     go false = a
 
-says-edge : (e n : ℕ) (x24 x25 x28 : Late) (b o d f : Break) → saysBy e n x24 x25 x28 b o d f .edge ≤ e
+says-edge : (e n : ℕ) (x24 x25 x28 x31 : Late) (b o d f : Break) → saysBy e n x24 x25 x28 x31 b o d f .edge ≤ e
 unfolding saysBy
-says-edge e n x24 x25 x28 b o d f = before (ltb (soonestOf x24 x25 x28 .at) e) refl
+says-edge e n x24 x25 x28 x31 b o d f = before (soonestOf x24 x25 x28 x31) (ltb (soonestOf x24 x25 x28 x31 .at) e) refl
   where
-    before : (x : Bool) → ltb (soonestOf x24 x25 x28 .at) e ≡ x
-        → cond x (verdictAt (soonestOf x24 x25 x28 .at) 0 (why (soonestOf x24 x25 x28)))
+    before : (soon : Late) (x : Bool) → ltb (soon .at) e ≡ x
+        → cond x (verdictAt (soon .at) 0 (why soon))
         (first (verdictAt e n b) (first (verdictAt e 0 (lateAt e x24)) (first (verdictAt e 0 o)
-        (first (verdictAt e n d) (first (verdictAt e 0 (lateAt e x28)) (verdictAt e n f)))))) .edge ≤ e
-    before true z = omega (arith, ltb-true (soonestOf x24 x25 x28 .at) e z)
-    before false z =
+        (first (verdictAt e n d) (first (verdictAt e 0 (lateAt e x28)) (first (verdictAt e n f) (verdictAt e 0 (lateAt e x31)))))))) .edge ≤ e
+    before soon true z = omega (arith, ltb-true (soon .at) e z)
+    before soon false z =
         first-edge e (verdictAt e n b) _ (told-edge e n b)
         (first-edge e (verdictAt e 0 (lateAt e x24)) _ (told-edge e 0 (lateAt e x24))
         (first-edge e (verdictAt e 0 o) _ (told-edge e 0 o)
         (first-edge e (verdictAt e n d) _ (told-edge e n d)
-        (first-edge e (verdictAt e 0 (lateAt e x28)) _ (told-edge e 0 (lateAt e x28)) (told-edge e n f)))))
+        (first-edge e (verdictAt e 0 (lateAt e x28)) _ (told-edge e 0 (lateAt e x28))
+        (first-edge e (verdictAt e n f) _ (told-edge e n f) (told-edge e 0 (lateAt e x31)))))))
 
 said-edge : (C : Chip) (s : Rank) (r : Record) → saysOf C s r .edge ≤ s .edge + r .step
 unfolding saysOf
-said-edge C s r = says-edge _ _ _ _ _ _ _ _ _
+said-edge C s r = says-edge _ _ _ _ _ _ _ _ _ _
 
 -- ── A record keeps the ranges ───────────────────────────────────────────────────────────────
 
@@ -168,30 +170,31 @@ module _ (C : Chip) (small : Small C) where
       go true z = omega (arith, leb-true d (e + 16 * C .trefi) z, small .trefi)
       go false z = l
 
-  debt-near : (c : Command) (e : ℕ) (D : Debt) → D .due - counting D e ≤ farthest → debtNext C c e D .due - counting (debtNext C c e D) e ≤ farthest
+  -- an edge of the debt behind an SRX
+  woken-near : (x : Bool) (e d : ℕ) → d - cond x 0 e ≤ farthest → d + cond x e 0 - e ≤ farthest
+  woken-near true e d l = omega (arith, l)
+  woken-near false e d l = omega (arith, l)
+
+  debt-near : (c : Command) (e : ℕ) (D : Debt) → Near e D → Near e (debtNext C c e D)
   unfolding debtNext
   debt-near c e D l = go (isA Ref c) (isA Sre c) (isA Srx c)
     where
-      woken : (x : Bool) → D .due - cond x 0 e ≤ farthest → cond x (D .due + e) (D .due) - e ≤ farthest
-      woken true m = omega arith
-      woken false m = m
+      due : ℕ
+      due = paid (C .trefi) (counting D e) (D .due)
 
-      paidOf : Debt
-      paidOf = record { sleeps = D .sleeps; due = paid (C .trefi) (counting D e) (D .due) }
-
-      sleptOf : Debt
-      sleptOf = record { sleeps = true; due = D .due - counting D e }
-
-      wokenOf : Debt
-      wokenOf = record { sleeps = false; due = cond (D .sleeps) (D .due + e) (D .due) }
+      gap : ℕ
+      gap = counting D e + C .nine + 1
 
       by : (x y z : Bool) → Debt
-      by x y z = cond x paidOf (cond y sleptOf (cond z wokenOf D))
+      by x y z =
+          cond x (record { sleeps = D .sleeps; due = due; gap = gap })
+          (cond y (record { sleeps = true; due = D .due - counting D e; gap = D .gap - counting D e })
+          (cond z (record { sleeps = false; due = D .due + woken D e; gap = D .gap + woken D e }) D))
 
-      go : (x y z : Bool) → by x y z .due - counting (by x y z) e ≤ farthest
-      go true y z = paid-near (counting D e) (D .due) l
-      go false true z = omega (arith, l)
-      go false false true = woken (D .sleeps) l
+      go : (x y z : Bool) → Near e (by x y z)
+      go true y z = (paid-near (counting D e) (D .due) (l .0), omega (arith, small .nine))
+      go false true z = (omega (arith, l .0), omega (arith, l .1))
+      go false false true = (woken-near (D .sleeps) e (D .due) (l .0), woken-near (D .sleeps) e (D .gap) (l .1))
       go false false false = l
 
   -- what one more record leaves
@@ -200,12 +203,12 @@ module _ (C : Chip) (small : Small C) where
 
   module _ (s : Rank) (r : Record) (range : Ranged s) (room : s .count + 1 ≤ limit) (short : r .step ≤ 16777216) where
     -- a later edge leaves no more clocks
-    later : s .debt .due - counting (s .debt) (s .edge + r .step) ≤ farthest
-    later = go (s .debt .sleeps) (range .debt)
+    later : Near (s .edge + r .step) (s .debt)
+    later = (go (s .debt .due) (s .debt .sleeps) (range .debt .0), go (s .debt .gap) (s .debt .sleeps) (range .debt .1))
       where
-        go : (x : Bool) → s .debt .due - cond x 0 (s .edge) ≤ farthest → s .debt .due - cond x 0 (s .edge + r .step) ≤ farthest
-        go true l = l
-        go false l = omega arith
+        go : (d : ℕ) (x : Bool) → d - cond x 0 (s .edge) ≤ farthest → d - cond x 0 (s .edge + r .step) ≤ farthest
+        go d true l = l
+        go d false l = omega arith
 
     stopped-goes : (v : Verdict) → v .edge ≤ lastEdge → Goes s (stoppedOf s r v)
     unfolding stoppedOf

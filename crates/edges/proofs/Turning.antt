@@ -91,7 +91,7 @@ module _ (C : Chip) (w : Asks) (set dll : Bool) (clear : ℕ) (d : Rest) (quiet 
   none-due b l = ⊎-elim (λ x. inl x) (λ x. inr (omega (arith, x, before))) (stands .due b l)
 
   not-owed : NotOwed (d .debt) e
-  not-owed = ⊎-elim (λ x. inl x) (λ x. inr (omega (arith, x, before))) (quiet .owed)
+  not-owed = ⊎-elim (λ x. inl x) (λ x. inr (omega (arith, x .0, before), omega (arith, x .1, before))) (quiet .owed)
 
   -- the step is the move
   not-long : NotLong C (rankOf d t) e

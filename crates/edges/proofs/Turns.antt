@@ -114,7 +114,7 @@ module _ (C : Chip) (s : Rank) (from : ℕ) (bytes : List ℕ) where
       clean = f .clean;
       broke = f .broke;
       asked = λ _. asked;
-      debt = debt-later (d .debt .sleeps) (f .debt);
+      debt = (debt-later (d .debt .due) (d .debt .sleeps) (f .debt .0), debt-later (d .debt .gap) (d .debt .sleeps) (f .debt .1));
       turned = f .turned;
     }
       where
@@ -130,9 +130,9 @@ module _ (C : Chip) (s : Rank) (from : ℕ) (bytes : List ℕ) where
             (λ (z : clear ≤ t .edge). let e = q .still z in subst (λ (x : Track). getD (x .banks .actno) b 0 ≤ x .count) (sym (e .0)) (f .acting y b l))
             (lt-or-le (t .edge) clear)
 
-        debt-later : (x : Bool) → d .debt .due - cond x 0 (t .edge) ≤ 1190000000 → d .debt .due - cond x 0 (t′ .edge) ≤ 1190000000
-        debt-later true h = h
-        debt-later false h = omega (arith, h, q .grows)
+        debt-later : (a : ℕ) (x : Bool) → a - cond x 0 (t .edge) ≤ 1190000000 → a - cond x 0 (t′ .edge) ≤ 1190000000
+        debt-later a true h = h
+        debt-later a false h = omega (arith, h, q .grows)
 
     -- one record more
     module _ (h : at < length bytes) (r : Record) (is : r ≡ recordAt bytes at) (some : r .step ≡ 0 → ⊥) where

@@ -25,20 +25,20 @@ abbrev pub Clears : (most : ℕ) (actat actno shutat shutno : List ℕ) (lo x : 
 Clears most actat actno shutat shutno lo x =
     (b : ℕ) → b < 8 → Off lo x (dueBy most (getD actat b 0) (getD actno b 0) (getD shutat b 0) (getD shutno b 0))
 
--- nor is the debt due before it
+-- nor is the debt due before it, or the last REF too far back
 abbrev pub Owing : Debt → (x : ℕ) → Type 0
-Owing D x = (D .sleeps ≡ true) ⊎ (x ≤ D .due)
+Owing D x = (D .sleeps ≡ true) ⊎ ((x ≤ D .due) × (x ≤ D .gap))
 
 -- nor is a stay in power-down too long before it
 abbrev pub Staying : (level sleeps : Bool) (at stay x : ℕ) → Type 0
 Staying l z at stay x = (l ≡ true) ⊎ ((z ≡ true) ⊎ (x ≤ at + stay + 1))
 
--- x, or the edge at which 9 would be owed if that is before
+-- x, or the edge at which 9 would be owed, or at which the last REF is too far back, if that is before
 abbrev pub owingBy : Debt → (x : ℕ) → ℕ
-owingBy D x = cond (D .sleeps) x (min x (D .due))
+owingBy D x = cond (D .sleeps) x (min (min x (D .due)) (D .gap))
 
 -- The edge after a seldom command that came at the edge e; D is the debt behind it, at the latest change of CKE. Behind a REF, or a PRE of all
--- banks, no bank is open; an SRX brings the debt's edge nearer; a power-down entry begins a stay
+-- banks, no bank is open; an SRX brings the debt's edges nearer; a power-down entry begins a stay
 unfoldable pub clearNext : (most stay : ℕ) → Command → (e at : ℕ) → Debt → (clear : ℕ) → ℕ
 clearNext m s c e at D x =
     cond (isA Ref c || isA Pre c) (owingBy D (e + m + 1)) (cond (isA Srx c) (owingBy D x) (cond (isA Pde c) (min x (at + s + 1)) x))

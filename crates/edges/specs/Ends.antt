@@ -27,7 +27,7 @@ use Rattle.edges.specs.declared.Rank.{Rank}
 use Rattle.edges.specs.declared.Folded.{Folded}
 use Rattle.edges.specs.Views.{keptOf, regsOf, writtenOf}
 use Rattle.edges.specs.Next.{counting}
-use Rattle.edges.specs.Says.{next24, next25, next28, soonestOf, refreshed}
+use Rattle.edges.specs.Says.{next24, next25, next28, next31, soonestOf, refreshed}
 use Rattle.edges.specs.Step.{foldOf}
 use Rattle.edges.specs.Ranges.{rankInRange}
 
@@ -58,23 +58,23 @@ freshActs = record { at = replicate 4 0; no = replicate 4 0; turn = 0 }
 unfoldable pub freshDevice : Device
 freshDevice = record { at = replicate 9 0; no = replicate 9 0; need = replicate 9 0; codes = replicate 4 0; written = replicate 4 false }
 
-unfoldable pub freshRank : (level : Bool) (due : ℕ) → Rank
-freshRank level due =
+unfoldable pub freshRank : (level : Bool) (due gap : ℕ) → Rank
+freshRank level due gap =
     record {
       edge = 0;
       count = 0;
       first = noVerdict;
       level = level;
-      debt = record { sleeps = false; due = due };
+      debt = record { sleeps = false; due = due; gap = gap };
       banks = freshBanks;
       waits = freshWaits;
       acts = freshActs;
       device = freshDevice;
     }
 
--- "Refresh debt starts at 0": 9 is owed nine intervals later
+-- "Refresh debt starts at 0": 9 is owed nine intervals later; and those of rule 31 are counted "from edge 0"
 abbrev pub startRank : Chip → Rank
-startRank C = freshRank true (9 * C .trefi)
+startRank C = freshRank true (9 * C .trefi) (C .nine + 1)
 
 -- ── A section ───────────────────────────────────────────────────────────────────────────────
 
@@ -101,6 +101,7 @@ takenOf C n bs =
 unfoldable pub nextLate : Chip → Rank → (hi : ℕ) → Late
 nextLate C s hi =
     soonestOf (next24 C (s .banks) (s .edge) hi) (next25 (s .debt) (refreshed s) hi) (next28 C (s .level) (s .debt .sleeps) (s .device) hi)
+    (next31 C (s .debt) (refreshed s) hi)
 
 -- the break so far, or the deadline that passes up to the end edge, or clean
 unfoldable pub verdictOf : Chip → Rank → (end : ℕ) → Verdict

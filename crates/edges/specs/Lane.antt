@@ -25,13 +25,13 @@ use Rattle.edges.specs.declared.Debt.{Debt}
 use Rattle.edges.specs.declared.Floor.{Floor}
 use Rattle.edges.specs.declared.Rank.{Rank}
 use Rattle.edges.specs.Views.{regsOf, CKE}
-use Rattle.edges.specs.Next.{counting, debtNext, deviceNext}
+use Rattle.edges.specs.Next.{debtNext, deviceNext}
 use Rattle.edges.specs.Says.{duesOf}
-use Rattle.edges.specs.Clearing.{Staying, clearNext}
+use Rattle.edges.specs.Clearing.{Owing, Staying, clearNext}
 use Rattle.edges.specs.Floors.{noFloor}
 use Rattle.edges.specs.Ways.{floorNext, holdsNext}
 use Rattle.edges.specs.Seldom.{MayCome}
-use Rattle.edges.specs.Ranges.{farthest}
+use Rattle.edges.specs.Ranges.{Near}
 use Rattle.edges.specs.Running.{Track, Rest, rankOf, Standing, Along}
 
 -- ── A rank taken apart ──────────────────────────────────────────────────────────────────────
@@ -61,15 +61,15 @@ restBy l x h D v = record { first = v; level = l; debt = x; holds = h; device = 
 -- no sum wraps, no index runs out
 pub record Fit (C : Chip) (bytes : List ℕ) (at : ℕ) (x : Debt) (D : Device) (t : Track) : Type 0 where
   pub base : Standing C 0 bytes at t
-  pub debt : x .due - counting x (t .edge) ≤ farthest
+  pub debt : Near (t .edge) x
   pub turned : getD (D .at) CKE 0 ≤ lastEdge
 
 -- no deadline passes before the edge clear, and clear is not far
 pub record Clear (C : Chip) (clear : ℕ) (d : Rest) (t : Track) : Type 0 where
   pub due : (b : ℕ) → b < 8 → (getD (duesOf C (t .banks)) b 0 ≤ t .edge) ⊎ (clear ≤ getD (duesOf C (t .banks)) b 0)
   pub near : clear ≤ t .edge + C .most + 1
-  pub owed : (d .debt .sleeps ≡ true) ⊎ (clear ≤ d .debt .due)
-  pub stays : Staying (d .level) (d .debt .sleeps) (getD (d .device .at) CKE 0) (C .stay) clear
+  pub owed : Owing (d .debt) clear
+  pub stays : Staying (d .level) (d .debt .sleeps) (getD (d .device .at) CKE 0) (C .nine) clear
 
 -- what is left to be folded gives what s gives from a place on. real: no bank has an ACT of a record to come. stale: w is to be worked out anew
 pub record Folding (C : Chip) (s : Rank) (from : ℕ) (bytes : List ℕ) (clear : ℕ) (real stale : Bool) (w : Asks) (d : Rest) (t : Track) (at : ℕ) : Type 0 where
@@ -81,7 +81,7 @@ pub record Folding (C : Chip) (s : Rank) (from : ℕ) (bytes : List ℕ) (clear 
   pub clean : d .first .outcome ≡ 0
   pub broke : d .first .edge ≤ lastEdge
   pub asked : stale ≡ false → Asked C (regsOf (d .device)) w
-  pub debt : d .debt .due - counting (d .debt) (t .edge) ≤ farthest
+  pub debt : Near (t .edge) (d .debt)
   pub turned : getD (d .device .at) CKE 0 ≤ lastEdge
 
 -- for every rank of these arrays that is not broken, and so for every verdict that may be its first break
@@ -123,7 +123,7 @@ pub record Passes
     (shutat′ shutno′ holds′ : List ℕ) (D′ : Device) (x′ : Debt) (f′ : Floor) (clear′ : ℕ) : Type 0 where
   pub turned : ℕ
   pub left : Leaves C c r e n actno shutat shutno holds D x f shutat′ shutno′ holds′ D′ x′ f′ turned
-  pub clears : clear′ ≡ clearNext (C .most) (C .stay) c e turned x′ clear
+  pub clears : clear′ ≡ clearNext (C .most) (C .nine) c e turned x′ clear
 
 -- the next record can be looked at: no sum wraps, no index runs out
 pub record Ahead (C : Chip) (bytes : List ℕ) (at : ℕ) (x : Debt) (devat : List ℕ) (e n : ℕ) : Type 0 where
@@ -131,7 +131,7 @@ pub record Ahead (C : Chip) (bytes : List ℕ) (at : ℕ) (x : Debt) (devat : Li
   pub small : Small C
   pub edge : e + recordAt bytes at .step ≤ lastEdge
   pub count : n + 1 ≤ limit
-  pub debt : x .due ≤ farEdge
+  pub debt : (x .due ≤ farEdge) × (x .gap ≤ farEdge)
   pub turned : getD devat CKE 0 ≤ lastEdge
 
 -- the next record is a seldom command that may come before the edge clear, and what it leaves behind; real: no bank has an ACT of a record to come; mode: it is an MRS

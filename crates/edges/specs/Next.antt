@@ -105,12 +105,16 @@ deviceNext C c r e n slow D =
 abbrev pub counting : Debt → (e : ℕ) → ℕ
 counting D e = cond (D .sleeps) 0 e
 
+-- and to which an SRX brings a part that sleeps
+abbrev pub woken : Debt → (e : ℕ) → ℕ
+woken D e = cond (D .sleeps) e 0
+
 -- after a REF: one interval later, unless the debt is -8, that is unless there are more than sixteen intervals
 abbrev pub paid : (trefi e due : ℕ) → ℕ
 paid T e d = cond (leb d (e + 16 * T)) (d + T) d
 
 unfoldable pub debtNext : Chip → Command → (e : ℕ) → Debt → Debt
 debtNext C c e D =
-    cond (isA Ref c) (record { sleeps = D .sleeps; due = paid (C .trefi) (counting D e) (D .due) })
-    (cond (isA Sre c) (record { sleeps = true; due = D .due - counting D e })
-    (cond (isA Srx c) (record { sleeps = false; due = cond (D .sleeps) (D .due + e) (D .due) }) D))
+    cond (isA Ref c) (record { sleeps = D .sleeps; due = paid (C .trefi) (counting D e) (D .due); gap = counting D e + C .nine + 1 })
+    (cond (isA Sre c) (record { sleeps = true; due = D .due - counting D e; gap = D .gap - counting D e })
+    (cond (isA Srx c) (record { sleeps = false; due = D .due + woken D e; gap = D .gap + woken D e }) D))

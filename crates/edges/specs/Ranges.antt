@@ -23,9 +23,12 @@ edgesOk xs (suc n) = edgesOk xs n && leb (getD xs n 0) lastEdge
 abbrev pub farthest : ℕ
 farthest = 1190000000
 
--- the debt's edge is not farther than that from the edge, asleep not farther than that from 0
+-- the debt's two edges are not farther than that from the edge, asleep not farther than that from 0
 abbrev pub debtOk : (edge : ℕ) → Debt → Bool
-debtOk e D = leb (D .due - counting D e) farthest
+debtOk e D = leb (D .due - counting D e) farthest && leb (D .gap - counting D e) farthest
+
+abbrev pub Near : (edge : ℕ) → Debt → Type 0
+Near e D = (D .due - counting D e ≤ farthest) × (D .gap - counting D e ≤ farthest)
 
 -- the latest change of CKE
 abbrev pub turnedOk : Device → Bool
@@ -41,7 +44,7 @@ rankInRange s =
 pub record Ranged (s : Rank) : Type 0 where
   pub edge : s .edge ≤ s .count * 16777216
   pub count : s .count ≤ limit
-  pub debt : s .debt .due - counting (s .debt) (s .edge) ≤ farthest
+  pub debt : Near (s .edge) (s .debt)
   pub turn : s .acts .turn ≤ 3
   pub broke : s .first .edge ≤ lastEdge
   pub turned : getD (s .device .at) CKE 0 ≤ lastEdge

@@ -20,6 +20,7 @@ use Rattle.edges.specs.declared.Floor.{Floor}
 use Rattle.edges.specs.declared.Rank.{Rank}
 use Rattle.edges.specs.Views.{regsOf, writtenOf}
 use Rattle.edges.specs.Says.{duesOf}
+use Rattle.edges.specs.Clearing.{Owing}
 use Rattle.edges.specs.Step.{foldOf}
 use Rattle.edges.specs.Floors.{settled}
 
@@ -64,15 +65,15 @@ rankOf d t = settled (t .floor) (heldBy d t)
 abbrev pub allWritten : Device → Bool
 allWritten D = let w = writtenOf D in w .w0 && (w .w1 && (w .w2 && w .w3))
 
--- what the quick way knows of the rest: nothing is broken, CKE is high, w is what the registers ask, set and dll what is written, and 9
--- is not owed before the edge clear
+-- what the quick way knows of the rest: nothing is broken, CKE is high, w is what the registers ask, set and dll what is written, and no
+-- deadline of the debt passes before the edge clear
 pub record Quiet (C : Chip) (w : Asks) (set dll : Bool) (clear : ℕ) (d : Rest) : Type 0 where
   pub clean : d .first .outcome ≡ 0
   pub level : d .level ≡ true
   pub asked : Asked C (regsOf (d .device)) w
   pub written : allWritten (d .device) ≡ set
   pub reset : writtenOf (d .device) .dll ≡ dll
-  pub owed : (d .debt .sleeps ≡ true) ⊎ (clear ≤ d .debt .due)
+  pub owed : Owing (d .debt) clear
 
 -- where the loop stands in the bytes: no sum wraps, no index runs out, no bank comes due before the edge clear, and none has an ACT of a
 -- record to come

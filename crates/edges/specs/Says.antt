@@ -1,4 +1,4 @@
--- What is said of a record: the gap before it, its edge, and rules 1 to 30.
+-- What is said of a record: the gap before it, its edge, and rules 1 to 31.
 -- Assumes nothing.
 use Prim.Native.Nat.{ℕ, _+_}
 use mathlib.Core.Bool.{Bool, cond, not, _&&_}
@@ -45,11 +45,15 @@ next25 D n hi = record { at = cond (D .sleeps) hi (D .due); rule = 25; partner =
 
 -- rule 28 after the latest record; at hi where the part is not in power-down
 abbrev pub next28 : Chip → (level sleeps : Bool) → Device → (hi : ℕ) → Late
-next28 C l z D hi = lateBy 28 (stayUntil l z (getD (D .at) CKE 0) (C .stay) hi) (getD (D .no) CKE 0) (C .stay)
+next28 C l z D hi = lateBy 28 (stayUntil l z (getD (D .at) CKE 0) (C .nine) hi) (getD (D .no) CKE 0) (C .nine)
 
--- the soonest of three, of equals the first
-abbrev pub soonestOf : (x24 x25 x28 : Late) → Late
-soonestOf x y z = sooner x (sooner y z)
+-- rule 31 after the latest record; at hi where the part sleeps
+abbrev pub next31 : Chip → Debt → (partner hi : ℕ) → Late
+next31 C D n hi = lateBy 31 (cond (D .sleeps) hi (D .gap)) n (C .nine)
+
+-- the soonest of four, of equals the first
+abbrev pub soonestOf : (x24 x25 x28 x31 : Late) → Late
+soonestOf x y z w = sooner x (sooner y (sooner z w))
 
 -- ── A record ────────────────────────────────────────────────────────────────────────────────
 
@@ -87,11 +91,12 @@ leftIn C s r e = cond (leb (waitFor (s .waits) (commandIn s r) r) e) Fine (exitR
 
 -- a deadline that passes before e; else by number what the record, number n, breaks, and the deadlines at e: b of rules 1 to 23, o of rule 25,
 -- d of 26 and 27, f of 29 and 30
-unfoldable pub saysBy : (e n : ℕ) → (x24 x25 x28 : Late) → (b o d f : Break) → Verdict
-saysBy e n x24 x25 x28 b o d f =
-    cond (ltb (soonestOf x24 x25 x28 .at) e) (verdictAt (soonestOf x24 x25 x28 .at) 0 (why (soonestOf x24 x25 x28)))
+unfoldable pub saysBy : (e n : ℕ) → (x24 x25 x28 x31 : Late) → (b o d f : Break) → Verdict
+saysBy e n x24 x25 x28 x31 b o d f =
+    let soon = soonestOf x24 x25 x28 x31 in
+    cond (ltb (soon .at) e) (verdictAt (soon .at) 0 (why soon))
     (first (verdictAt e n b) (first (verdictAt e 0 (lateAt e x24)) (first (verdictAt e 0 o)
-    (first (verdictAt e n d) (first (verdictAt e 0 (lateAt e x28)) (verdictAt e n f))))))
+    (first (verdictAt e n d) (first (verdictAt e 0 (lateAt e x28)) (first (verdictAt e n f) (verdictAt e 0 (lateAt e x31))))))))
 
 abbrev pub refreshed : Rank → ℕ
 refreshed s = getD (s .device .no) REF 0
@@ -101,4 +106,4 @@ saysOf C s r =
     let e = s .edge + r .step in
     let x25 = next25 (s .debt) (refreshed s) (e + 1) in
     saysBy e (s .count + 1) (next24 C (s .banks) (s .edge) (e + 1)) x25 (next28 C (s .level) (s .debt .sleeps) (s .device) (e + 1))
-    (brokenIn C s r e) (owing (commandIn s r) e x25) (changedIn C s r e) (leftIn C s r e)
+    (next31 C (s .debt) (refreshed s) (e + 1)) (brokenIn C s r e) (owing (commandIn s r) e x25) (changedIn C s r e) (leftIn C s r e)

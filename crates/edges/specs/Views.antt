@@ -1,4 +1,4 @@
--- What is kept, as rules 1 to 30 ask for it: the marks of a bank, and those that all banks share.
+-- What is kept, as the rules ask for it: the marks of a bank, and those that all banks share.
 -- Assumes nothing.
 use Prim.Native.Nat.{ℕ, zero, suc, _+_, _-_, _%_}
 use mathlib.Core.Bool.{Bool, true, false, cond, not, _&&_, _||_}
@@ -150,7 +150,7 @@ sharedOf C B A D =
       level = true;
       acts = actsOf C A;
       rests = restsOf D;
-      debt = record { sleeps = false; phase = 0; owed = 0 };
+      debt = record { sleeps = false; phase = 0; owed = 0; gap = 0 };
       regs = regsOf D;
       written = writtenOf D;
       read = readOf B;

@@ -2,10 +2,12 @@
 // The definitions stand in specs/, their laws in proofs/; the code stands in the crates above.
 use answers::Verdict;
 
-// Refresh debt: the edge at which 9 would be owed if no REF came. Of a part that sleeps: the awake clocks that are left until then.
+// Refresh debt, if no REF came: due is the edge at which 9 would be owed, gap that at which the last REF is more than nine intervals back. Of
+// a part that sleeps: the awake clocks that are left until then.
 pub struct Debt {
     pub sleeps: bool,
     pub due: u64,
+    pub gap: u64,
 }
 
 // Of each bank, by the number of its record (0: none). act: the latest ACT, its edge, what rule 4 needs of it, its row. col: the latest RD of each

@@ -7,7 +7,7 @@ use lib.Dec.{eqb}
 use Rattle.units.proofs.Rounding.{up-most, down-most}
 use Rattle.header.specs.declared.Header.{Header}
 use Rattle.header.specs.Bins.{Bin, bin0, bin1, bin2, bin3, binOf, rowOf}
-use Rattle.header.specs.Counts.{row, tRCD, tRP, tRC, tRAS, tRRD, tFAW, tCKE, tRTP, tWTR, tWR, tMRD, tMOD, tRFC, tXS, zqLong, zqShort, mostRAS, tREFI, tXP, tXPDLL, mostDown}
+use Rattle.header.specs.Counts.{row, tRCD, tRP, tRC, tRAS, tRRD, tFAW, tCKE, tRTP, tWTR, tWR, tMRD, tMOD, tRFC, tXS, zqLong, zqShort, mostRAS, tREFI, tXP, tXPDLL, nineREFI}
 
 -- what holds of the four rows holds of the row of every bin
 pub by-bin : (P : Bin → Type 0) → P bin0 → P bin1 → P bin2 → P bin3 → (b : ℕ) → P (binOf b)
@@ -59,7 +59,7 @@ pub record Bounds (h : Header) : Type 0 where
   pub refi : tREFI h .clocks ≤ 7800000
   pub xp : tXP h .clocks ≤ 7500
   pub xpdll : tXPDLL h .clocks ≤ 24000
-  pub down : mostDown h .clocks ≤ 70200000
+  pub nine : nineREFI h .clocks ≤ 70200000
 
 pub bounds : (h : Header) → Bounds h
 bounds h =
@@ -69,6 +69,7 @@ bounds h =
     let rrd = choice (h .wide) (r .tRRD2K) (r .tRRD1K) 10000 (t .rrd2) (t .rrd1) in
     let faw = choice (h .wide) (r .tFAW2K) (r .tFAW1K) 50000 (t .faw2) (t .faw1) in
     let rfc = choice (h .dense) 160000 110000 160000 (omega arith) (omega arith) in
+    let most = choice (h .hot) 35100000 70000000 70000000 (omega arith) (omega arith) in
     let refi = choice (h .hot) 3900000 7800000 7800000 (omega arith) (omega arith) in
     let xp = choice (eqb (rowOf (h .bin)) 0) 7500 6000 7500 (omega arith) (omega arith) in
     record {
@@ -88,9 +89,9 @@ bounds h =
       xs = omega (arith, up-most (cond (h .dense) 160000 110000 + 10000) p);
       long = omega (arith, up-most 320000 p);
       short = omega (arith, up-most 80000 p);
-      most = down-most 70000000 p;
+      most = omega (arith, down-most (cond (h .hot) 35100000 70000000) p);
       refi = omega (arith, down-most (cond (h .hot) 3900000 7800000) p);
       xp = omega (arith, up-most (cond (eqb (rowOf (h .bin)) 0) 7500 6000) p);
       xpdll = omega (arith, up-most 24000 p);
-      down = omega (arith, down-most (cond (h .hot) 3900000 7800000) p);
+      nine = omega (arith, down-most (cond (h .hot) 3900000 7800000) p);
     }

@@ -86,20 +86,20 @@ zqLong h = leastOr h 320000 256
 abbrev pub zqShort : Header → Clocks
 zqShort h = leastOr h 80000 64
 
--- "Greatest tRAS 70,000,000. tREFI 7,800,000, hot 3,900,000, rounded down."
+-- "Greatest tRAS 70,000,000. tREFI 7,800,000, hot 3,900,000, rounded down."; Q-2: "a hot part has 35,100,000 ps, not 70,000,000"
 abbrev pub mostRAS : Header → Clocks
-mostRAS h = greatest h 70000000
+mostRAS h = greatest h (cond (h .hot) 35100000 70000000)
 
 abbrev pub tREFI : Header → Clocks
 tREFI h = greatest h (cond (h .hot) 3900000 7800000)
 
--- Q-1: "exit to any command tXP (7500 ps in bin 0, 6000 otherwise, at least 3 clocks)", "exit to RD 24000 ps, at least 10 clocks",
--- "greatest stay nine times tREFI's clocks"
+-- Q-1: "exit to any command tXP (7500 ps in bin 0, 6000 otherwise, at least 3 clocks)", "exit to RD 24000 ps, at least 10 clocks"
 abbrev pub tXP : Header → Clocks
 tXP h = leastOr h (cond (eqb (rowOf (h .bin)) 0) 7500 6000) 3
 
 abbrev pub tXPDLL : Header → Clocks
 tXPDLL h = leastOr h 24000 10
 
-abbrev pub mostDown : Header → Clocks
-mostDown h = clocks (9 * tREFI h .clocks)
+-- Q-1: "greatest stay nine times tREFI's clocks"; Q-2: "broken one edge past nine times tREFI's clocks"
+abbrev pub nineREFI : Header → Clocks
+nineREFI h = clocks (9 * tREFI h .clocks)

@@ -8,7 +8,7 @@ ghost use mathlib.Core.Path.{_≡_};
 ghost use Prim.Native.Nat.{_+_, _<_};
 ghost use mathlib.Core.Bool.{cond};
 ghost use Rattle.header.specs.Bins.{timeAt};
-ghost use Rattle.header.specs.Counts.{row, least, leastOr, greatest, tRCD, tRP, tRC, tRAS, tRRD, tFAW, tCKE, tRTP, tWTR, tWR, tMRD, tMOD, tRFC, tXS, zqLong, zqShort, mostRAS, tREFI, tXP, tXPDLL, mostDown};
+ghost use Rattle.header.specs.Counts.{row, least, leastOr, greatest, tRCD, tRP, tRC, tRAS, tRRD, tFAW, tCKE, tRTP, tWTR, tWR, tMRD, tMOD, tRFC, tXS, zqLong, zqShort, mostRAS, tREFI, tXP, tXPDLL, nineREFI};
 ghost use Rattle.header.specs.Contracts.{Counted};
 
 impl Header {
@@ -117,7 +117,8 @@ impl Header {
     pub fn mostras(self) -> Clocks
         ensures { λ r. ⌜ Counted mostRAS self r ⌝ }
     {
-        greatest(self, 70000000)
+        let time = choice(self.hot, 35100000, 70000000);
+        greatest(self, time)
     }
 
     pub fn trefi(self) -> Clocks
@@ -141,8 +142,8 @@ impl Header {
     }
 
     // Nine times tREFI's clocks.
-    pub fn mostdown(self) -> Clocks
-        ensures { λ r. ⌜ Counted mostDown self r ⌝ }
+    pub fn ninerefi(self) -> Clocks
+        ensures { λ r. ⌜ Counted nineREFI self r ⌝ }
     {
         let c = self.trefi();
         Clocks {

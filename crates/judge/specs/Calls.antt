@@ -38,7 +38,7 @@ abbrev pub noHeader : Header
 noHeader = record { bin = 0; dense = false; wide = false; hot = false; period = record { ps = 0 } }
 
 abbrev pub zeros : State
-zeros = holding noHeader (freshRank false 0)
+zeros = holding noHeader (freshRank false 0 0)
 
 -- "Opening checks 1, 2, 3, 4": by the cases of the header's answer
 abbrev pub openedBy : Parsed → Opened

@@ -85,8 +85,8 @@ fn holding(h: Header, n: Rank) -> State
 fn start(h: Header) -> State
     ensures { λ r. ⌜ r ≡ calls.startOf h ⌝ }
 {
-    let interval = h.trefi().clocks;
-    holding(h, still::fresh(true, 9 * interval))
+    let nine = h.ninerefi().clocks;
+    holding(h, still::fresh(true, nine, nine + 1))
 }
 
 fn zeros() -> State
@@ -99,7 +99,7 @@ fn zeros() -> State
         hot: false,
         period: Ps { ps: 0 },
     };
-    holding(h, still::fresh(false, 0))
+    holding(h, still::fresh(false, 0, 0))
 }
 
 fn taken(h: Header, n: Rank) -> Taken

@@ -77,7 +77,7 @@ fn of_the_device(c: Chip) {
 fn of_power_down(c: Chip) {
     count(b"clocks_txp", c.txp);
     count(b"clocks_txpdll", c.txpdll);
-    count(b"clocks_stay", c.stay);
+    count(b"clocks_stay", c.nine);
 }
 
 // A file that was read to its end: its number, its records, the edge before it and its last; whether it begins with a header of its own.

@@ -11,13 +11,13 @@ use lib.Dec.{eqb, leb}
 use borrow.Author.Tests.{eqb-true, eqb-false, leb-true, leb-false, eq-eqb, ne-eqb}
 use Rattle.records.specs.declared.Record.{Record}
 use Rattle.records.specs.declared.Command.the-variants.{Ref, Sre}
-use Rattle.rules.specs.Past.{Past, edge, number, changes, asleep, is, latest, upTo}
-use Rattle.rules.specs.Deadlines.{awakeTo, awakeAt, owedTo, owedAt}
+use Rattle.rules.specs.Past.{Past, edge, number, changes, asleep, is, latest, upTo, _∈_, here, there}
+use Rattle.rules.specs.Deadlines.{awakeTo, awakeAt, owedTo, owedAt, sinceRef}
 use Rattle.rules.specs.Verdict.{Apart}
-use Rattle.rules.proofs.Generic.{decide}
-use Rattle.rules.proofs.Events.{never, push}
+use Rattle.rules.proofs.Generic.{decide, edge-le}
+use Rattle.rules.proofs.Events.{never, push, latest-is}
 use Rattle.rules.proofs.Sleeping.{asleep-by-changes}
-use Rattle.rules.proofs.Edges.{up-to-all, up-to-skip}
+use Rattle.rules.proofs.UpTo.{up-to-all, up-to-skip, up-to-edge, up-to-zero}
 use Rattle.rules.proofs.Debts.{owed-now}
 use Rattle.means.proofs.Partners.{latest-sense, latest-one}
 use Rattle.means.specs.Clock.{awake, owed, Asleep, sleeps, ticks, refreshes, By-edge}
@@ -118,13 +118,6 @@ next (r ∷ p) t a = ⊎-elim
         stands s u (up-to-skip (t + 1) r p (omega (arith, n)) ∙ e) (up-to-skip t r p l ∙ f) g
         (rw (ne-eqb (edge (r ∷ p)) (t + 1) n) (elsewhere (is Ref (r ∷ p)) (refreshes p (t + 1)) ∙ b))
 
-edge-up-to : (t : ℕ) (p : Past) → edge (upTo t p) ≤ t
-edge-up-to t [] = omega arith
-edge-up-to t (r ∷ p) = ⊎-elim
-    (λ (y : leb (edge (r ∷ p)) t ≡ true). rw y (leb-true _ _ y))
-    (λ (z : leb (edge (r ∷ p)) t ≡ false). rw z (edge-up-to t p))
-    (decide (leb (edge (r ∷ p)) t))
-
 module _ (r : Record) (p : Past) (t : ℕ) (at : edge (r ∷ p) ≡ t) where
   awake-record : awakeAt (r ∷ p) t ≡ awakeAt p t
   unfolding awakeAt awakeTo
@@ -142,35 +135,74 @@ module _ (r : Record) (p : Past) (t : ℕ) (at : edge (r ∷ p) ≡ t) where
 
 -- ── The theorem ─────────────────────────────────────────────────────────────────────────────
 
--- before edge 1 there is no record
-nothing-yet : (q : Past) → Apart q → upTo 0 q ≡ []
-nothing-yet [] a = refl
-nothing-yet (r ∷ p) a = let first : 1 ≤ r .step = a .0 in up-to-skip 0 r p (omega arith) ∙ nothing-yet p (a .1)
+-- ── The clock at an event ───────────────────────────────────────────────────────────────────
+
+-- right after its latest record
+awake-now : (s : Past) → awakeAt s (edge s) ≡ awakeTo s
+unfolding awakeAt
+awake-now s = go (asleep s)
+  where
+    go : (x : Bool) → awakeTo s + cond x 0 (edge s - edge s) ≡ awakeTo s
+    go true = omega arith
+    go false = omega arith
+
+-- up to the edge of an event of q there is that event, and what was before it
+up-to-own : {s q : Past} → Apart q → s ∈ q → upTo (edge s) q ≡ s
+up-to-own a (here {r = r} {p = p}) = up-to-all (edge (r ∷ p)) (r ∷ p) (omega arith)
+up-to-own {s = s} a (there {r = r} {p = p} i) =
+    let first : 1 ≤ r .step = a .0 in up-to-skip (edge s) r p (omega (arith, edge-le i)) ∙ up-to-own (a .1) i
+
+up-to-in : (t : ℕ) (q : Past) {s : Past} → s ∈ upTo t q → s ∈ q
+up-to-in t [] i = i
+up-to-in t (r ∷ q) {s} i = go (leb (edge (r ∷ q)) t) i (up-to-in t q)
+  where
+    go : (x : Bool) → s ∈ cond x (r ∷ q) (upTo t q) → (s ∈ upTo t q → s ∈ q) → s ∈ r ∷ q
+    go true j older = j
+    go false j older = there (older j)
+
+awake-event : (q : Past) → Apart q → (k : Past → Bool) (t : ℕ) → awake q (edge (latest k (upTo t q))) ≡ awakeTo (latest k (upTo t q))
+unfolding awakeTo
+awake-event q a k t = ⊎-elim
+    (λ (e : latest k (upTo t q) ≡ []). rw (e, up-to-zero q a) (awake-now []))
+    (λ w. ap (λ p. awakeAt p (edge (latest k (upTo t q)))) (up-to-own a (up-to-in t q (w .0))) ∙ awake-now (latest k (upTo t q)))
+    (latest-is k (upTo t q))
 
 module _ {T : ℕ} (h : 0 < T) (q : Past) (apart : Apart q) where
+  since-on : (t : ℕ) → sinceRef (upTo t q) (t + 1) ≡ awake q (t + 1) - awake q (edge (latest (is Ref) (upTo t q)))
+  unfolding sinceRef
+  since-on t = go (next q t apart)
+    where
+      by : awakeAt (upTo t q) (t + 1) ≡ awake q (t + 1)
+          → awakeAt (upTo t q) (t + 1) - awakeTo (latest (is Ref) (upTo t q)) ≡ awake q (t + 1) - awake q (edge (latest (is Ref) (upTo t q)))
+      by e = λ i. e i - sym (awake-event q apart (is Ref) t) i
+
+      go : Next q t → awakeAt (upTo t q) (t + 1) - awakeTo (latest (is Ref) (upTo t q)) ≡ awake q (t + 1) - awake q (edge (latest (is Ref) (upTo t q)))
+      go (silent e n) = by (ap (λ p. awakeAt p (t + 1)) (sym e))
+      go (stands r p e f at n) = by (ap (λ p. awakeAt p (t + 1)) f ∙ sym (awake-record r p (t + 1) at) ∙ ap (λ p. awakeAt p (t + 1)) (sym e))
+
   clock-on : (t : ℕ) → awake q (t + 1) ≡ awake q t + cond (sleeps q t) 0 1
   clock-on t = go (next q t apart)
     where
       go : Next q t → awake q (t + 1) ≡ awake q t + cond (sleeps q t) 0 1
-      go (silent e n) = rw e (awake-on (upTo t q) t (edge-up-to t q))
+      go (silent e n) = rw e (awake-on (upTo t q) t (up-to-edge t q))
       go (stands r p e f at n) =
-          let older : edge p ≤ t = rw f at (edge-up-to t q) in
+          let older : edge p ≤ t = rw f at (up-to-edge t q) in
           rw (e, f) (awake-record r p (t + 1) at ∙ awake-on p t older)
 
   debt-on : (t : ℕ) → owed T q (t + 1) ≡ owed T q t + cond (ticks T q t) 1 0 - cond (refreshes q (t + 1)) 1 0
   debt-on t = go (next q t apart)
     where
       go : Next q t → owed T q (t + 1) ≡ owed T q t + cond (ticks T q t) 1 0 - cond (refreshes q (t + 1)) 1 0
-      go (silent e n) = rw (e, n) (owed-on (upTo t q) t (edge-up-to t q) h ∙ omega arith)
+      go (silent e n) = rw (e, n) (owed-on (upTo t q) t (up-to-edge t q) h ∙ omega arith)
       go (stands r p e f at n) =
-          let older : edge p ≤ t = rw f at (edge-up-to t q) in
+          let older : edge p ≤ t = rw f at (up-to-edge t q) in
           rw (e, f, n, awake-record r p (t + 1) at)
           (owed-record r p (t + 1) at h ∙ ap (λ x. x - cond (is Ref (r ∷ p)) 1 0) (owed-on p t older h))
 
   -- "Refresh debt starts at 0, rises by 1 .."; "The awake clock counts edges from 1, but not .."
   pub debt-by-edge : By-edge T q
   unfolding owedAt owedTo awakeAt awakeTo asleep
-  debt-by-edge = record { clock-starts = rw (nothing-yet q apart); clock = clock-on; debt-starts = rw (nothing-yet q apart) (omega arith); debt = debt-on }
+  debt-by-edge = record { clock-starts = rw (up-to-zero q apart); clock = clock-on; debt-starts = rw (up-to-zero q apart) (omega arith); debt = debt-on; since = since-on }
 
 -- ── Asleep ──────────────────────────────────────────────────────────────────────────────────
 

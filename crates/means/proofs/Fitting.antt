@@ -32,7 +32,7 @@ use Rattle.rules.proofs.Events.{number-le, latest-is}
 use Rattle.rules.proofs.Facts.{burst-bounds}
 use Rattle.means.specs.Partners.{Fourth}
 use Rattle.means.specs.Pairs.{Lacks, code, registers, reset, Pair, other-change, in-the-way, lacking, too-soon, precharging, five-acts, no-refresh}
-use Rattle.means.specs.Means.{How, record-did, limit-passed, debt-grew, stay-passed}
+use Rattle.means.specs.Means.{How, record-did, limit-passed, debt-grew, stay-passed, gap-passed}
 use Rattle.means.proofs.Means.{broken-means, never-fine}
 
 -- ── Latencies ───────────────────────────────────────────────────────────────────────────────
@@ -93,14 +93,15 @@ record Low (C : Chip) : Type 0 where
   most : C .most ≤ 320000
   xp : C .txp ≤ 320000
   xpdll : C .txpdll ≤ 320000
-  stay : C .stay ≤ 320000
+  nine : C .nine ≤ 320000
 
 low : (h : Header) → 1070 ≤ h .period .ps → Low (chipOf h)
 unfolding chipOf
 low h least =
     let b = bounds h in
     let p = h .period .ps in
-    let limit = down-greatest 70000000 p (omega arith) .not-longer in
+    let most = choice (h .hot) 35100000 70000000 70000000 (omega arith) (omega arith) in
+    let limit = down-greatest (cond (h .hot) 35100000 70000000) p (omega arith) .not-longer in
     let refi : (x : Bool) → down (cond x 3900000 7800000) p * 1070 ≤ down (cond x 3900000 7800000) p * p = λ x. mul-le-mul-left (down (cond x 3900000 7800000) p) least in
     let interval : (x : Bool) → down (cond x 3900000 7800000) p * p ≤ 7800000 = λ x.
     let l = down-greatest (cond x 3900000 7800000) p (omega arith) .not-longer in
@@ -121,10 +122,10 @@ low h least =
       xs = omega (arith, b .xs);
       long = omega (arith, b .long);
       short = omega (arith, b .short);
-      most = omega (arith, limit, mul-le-mul-left (down 70000000 p) least);
+      most = omega (arith, most, limit, mul-le-mul-left (down (cond (h .hot) 35100000 70000000) p) least);
       xp = omega (arith, b .xp);
       xpdll = omega (arith, b .xpdll);
-      stay = omega (arith, refi (h .hot), interval (h .hot));
+      nine = omega (arith, refi (h .hot), interval (h .hot));
     }
 
 module _ (C : Chip) (L : Low C) where
@@ -162,7 +163,7 @@ module _ (C : Chip) (L : Low C) where
   need-most r29 s = omega (arith, L .xp)
   need-most r30 s = omega (arith, L .xpdll)
 
-  name-most : (x : Row) → spacing C x .name ≤ 30
+  name-most : (x : Row) → spacing C x .name ≤ 31
   name-most r4 = omega arith
   name-most r6 = omega arith
   name-most r7 = omega arith
@@ -190,12 +191,12 @@ module _ (C : Chip) (L : Low C) where
 
   -- what a broken rule tells, of a recording of so many records
   record Told (records rule partner needed found : ℕ) : Type 0 where
-    by-rule : rule ≤ 30
+    by-rule : rule ≤ 31
     by-partner : partner ≤ records
     by-needed : needed ≤ 320100
     by-found : found ≤ 320100
 
-  told : {n k x m f : ℕ} → k ≤ 30 → x ≤ n → m ≤ 320100 → f ≤ 320100 → Told n k x m f
+  told : {n k x m f : ℕ} → k ≤ 31 → x ≤ n → m ≤ 320100 → f ≤ 320100 → Told n k x m f
   told a b c d = record { by-rule = a; by-partner = b; by-needed = c; by-found = d }
 
   latest-number : (kind : Past → Bool) (p : Past) → number (latest kind p) ≤ number p
@@ -256,7 +257,12 @@ module _ (C : Chip) (L : Low C) where
   how-told {q = q} {t = t} (stay-passed e w) = (
     omega arith,
     told (omega arith) (omega (arith, w .partner-is, number-le (w .latest-of .event), up-to-number (t - 1) q))
-        (omega (arith, w .needed-is, L .stay)) (omega (arith, w .found-is, L .stay)),
+        (omega (arith, w .needed-is, L .nine)) (omega (arith, w .found-is, L .nine)),
+  )
+  how-told {q = q} {t = t} (gap-passed e w) = (
+    omega arith,
+    told (omega arith) (omega (arith, w .partner-is, latest-number (is Ref) (upTo (t - 1) q), up-to-number (t - 1) q))
+        (omega (arith, w .needed-is, L .nine)) (omega (arith, w .found-is, L .nine)),
   )
   how-told {q = q} {t = t} (debt-grew e w) = (
     omega arith,

@@ -9,3 +9,4 @@ pub mod Fourth
 pub mod Fifth
 pub mod Clock
 pub mod Fitting
+pub mod Never

@@ -14,15 +14,15 @@ use Rattle.answers.specs.declared.Break.the-variants.{Fine, Broken}
 use Rattle.records.specs.declared.Record.{Record}
 use Rattle.chip.specs.declared.Chip.{Chip}
 use Rattle.rules.specs.Past.{Past, edge, number, _∈_, here, there}
-use Rattle.rules.specs.Deadlines.{rule24, rule25, rule28}
+use Rattle.rules.specs.Deadlines.{rule24, rule25, rule28, rule31}
 use Rattle.rules.specs.Verdict.{Outcome, clean, stop, keep, told, Check, ofRecord, deadline, recordSays, checkSays, edgeChecks, brokenAt, verdictTo, Apart}
 use Rattle.rules.proofs.Generic.{edge-le}
 use Rattle.rules.proofs.Numbered.{stop-clean}
 use Rattle.rules.proofs.Sense.{verdict-next, skip-to, clean-iff, stop-at, stop-after, earliest}
-use Rattle.means.specs.Breaks.{BreaksAt, by-record, by-limit, by-debt, by-stay}
-use Rattle.means.specs.Means.{How, record-did, limit-passed, debt-grew, stay-passed, Broken-means}
+use Rattle.means.specs.Breaks.{BreaksAt, by-record, by-limit, by-debt, by-stay, by-gap}
+use Rattle.means.specs.Means.{How, record-did, limit-passed, debt-grew, stay-passed, gap-passed, Broken-means}
 use Rattle.means.proofs.Breaks.{broken-by, says-so}
-use Rattle.means.proofs.Passing.{pair24, late-bad, pair25, owing-bad, pair28, stay-bad}
+use Rattle.means.proofs.Passing.{pair24, late-bad, pair25, owing-bad, pair28, stay-bad, pair31, parted-bad}
 use Rattle.means.proofs.Order.{broken-never, broken-clean, broken-least}
 
 module _ (C : Chip) (q : Past) (apart : Apart q) where
@@ -82,6 +82,8 @@ module _ (C : Chip) (q : Past) (apart : Apart q) where
       by-the-deadline (rule25 C) (search (first, next) depth 40) (λ j a b c h. pair25 C q t j a b c h .0) (owing-bad C q t x)
   says-there {t} (by-stay x) =
       by-the-deadline (rule28 C) (search (first, next) depth 40) (λ j a b c h. pair28 C q t j a b c h .0) (stay-bad C q t x)
+  says-there {t} (by-gap x) =
+      by-the-deadline (rule31 C) (search (first, next) depth 40) (λ j a b c h. pair31 C q t j a b c h .0) (parted-bad C q t x)
 
   none-broken : (t j : ℕ) → brokenAt C q t ≡ clean → BreaksAt C q t j → ⊥
   none-broken t j h b = let w = says-there b in stop-clean (sym (w .says) ∙ broken-clean C (w .check) q t h (w .of))
@@ -106,6 +108,7 @@ module _ (C : Chip) (q : Past) (apart : Apart q) where
   breaks-how (limit-passed e w) = by-limit (w .bank) (w .below) (w .passed)
   breaks-how (debt-grew e w) = by-debt (w .owes)
   breaks-how (stay-passed e w) = by-stay (w .event, w .latest-of, w .entered, w .passed)
+  breaks-how (gap-passed e w) = by-gap (w .passed)
 
   -- a broken verdict
   pub broken-means : (end t n k x m f : ℕ) → verdictTo C q end ≡ stop t n (Broken k x m f) → Broken-means C q end t n k x m f

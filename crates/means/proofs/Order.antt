@@ -15,13 +15,13 @@ use Rattle.records.specs.declared.Record.{Record}
 use Rattle.chip.specs.declared.Chip.{Chip}
 use Rattle.rules.specs.Past.{Past, edge, number, _∈_, here, there}
 use Rattle.rules.specs.Rules.{Row, r4, r6, r7, r9, r10, r11, r12r, r12w, r13, r14, r15, r16, r17, r18, r19, r20, r21, r22, r26, r27, r29, r30, spacing, spaced}
-use Rattle.rules.specs.Deadlines.{rule24, rule25, rule28}
+use Rattle.rules.specs.Deadlines.{rule24, rule25, rule28, rule31}
 use Rattle.rules.specs.Verdict.{Outcome, clean, stop, keep, told, Check, ofRecord, deadline, recordSays, checkSays, firstOf, edgeChecks, brokenAt}
 use Rattle.rules.proofs.Generic.{decide, broken-fine}
 use Rattle.rules.proofs.Numbered.{stop-clean, keep-clean}
-use Rattle.means.specs.Means.{How, record-did, limit-passed, debt-grew, stay-passed}
+use Rattle.means.specs.Means.{How, record-did, limit-passed, debt-grew, stay-passed, gap-passed}
 use Rattle.means.proofs.Least.{Says, says1, says2, says3, says5, says8, says23, says-row}
-use Rattle.means.proofs.Passing.{pair24, pair25, pair28}
+use Rattle.means.proofs.Passing.{pair24, pair25, pair28, pair31}
 
 -- ── What one check says ─────────────────────────────────────────────────────────────────────
 
@@ -111,6 +111,12 @@ module _ (C : Chip) (q : Past) where
       let w = pair28 C q t j x m f (d .0) in
       (w .0, stay-passed (d .1) (w .1))
 
+  of-gap : Speaks 31 (deadline (rule31 C))
+  of-gap t u n j x m f h =
+      let d = told-from t 0 (rule31 C q t) u n j x m f h in
+      let w = pair31 C q t j x m f (d .0) in
+      (w .0, gap-passed (d .1) (w .1))
+
   -- the checks speak of rules from k on, by number
   data Ordered : ℕ → List Check → Type 0 where
     none : {k : ℕ} → Ordered k []
@@ -152,7 +158,8 @@ module _ (C : Chip) (q : Past) where
       (also 28 refl of-stay
       (also 29 refl (row r29)
       (also 30 refl (row r30)
-      none))))))))))))))))))))))))))))))
+      (also 31 refl of-gap
+      none)))))))))))))))))))))))))))))))
 
   module _ (t : ℕ) where
     -- no check of the list breaks a rule below k

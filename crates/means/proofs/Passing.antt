@@ -1,24 +1,24 @@
--- Rules 24, 25 and 28 at an edge say that they are broken exactly where they are, and name the pair that 01 names.
+-- Rules 24, 25, 28 and 31 at an edge say that they are broken exactly where they are, and name the pair that 01 names.
 -- Assumes nothing.
 use Prim.Native.Nat.{ℕ, _+_, _-_, _≤_, _<_}
 use native.Mathlib.Omega.{arith}
 use mathlib.Core.Path.{_≡_, refl, sym, ap, _∙_}
 use mathlib.Core.Bool.{Bool, true, false, cond, _&&_}
 use mathlib.Core.List.{[], _∷_}
-use lib.Dec.{eqb, leb}
-use borrow.Author.Tests.{eqb-true, eq-eqb, leb-true, le-leb}
+use lib.Dec.{eqb, leb, ltb}
+use borrow.Author.Tests.{eqb-true, eq-eqb, leb-true, le-leb, ltb-true, lt-ltb}
 use Rattle.answers.specs.declared.Bank.{Bank}
 use Rattle.answers.specs.declared.Break.the-variants.{Fine, Broken}
 use Rattle.records.specs.declared.Command.the-variants.{Ref, Pde}
 use Rattle.chip.specs.declared.Chip.{Chip}
 use Rattle.rules.specs.Past.{Past, edge, number, changes, is, latest, upTo}
 use Rattle.rules.specs.Banks.{actOn, isIdle, actNum, status}
-use Rattle.rules.specs.Deadlines.{over, late, stayed, rule24, rule25, rule28, owedAt}
+use Rattle.rules.specs.Deadlines.{over, late, stayed, rule24, rule25, rule28, rule31, owedAt, sinceRef}
 use Rattle.rules.specs.Down.{turned}
 use Rattle.rules.proofs.Generic.{broken-fine}
 use Rattle.rules.proofs.Events.{never}
 use Rattle.rules.proofs.Clean.{lowest-fine}
-use Rattle.means.specs.Passing.{Over, Late, Late-pair, Owing, Debt-pair, Stayed, Stay-pair}
+use Rattle.means.specs.Passing.{Over, Late, Late-pair, Owing, Debt-pair, Stayed, Stay-pair, Parted, Gap-pair}
 use Rattle.means.proofs.Partners.{fine-broken, latest-sense, latest-one, Lowest, lowest-sense, status-cases, act-number}
 
 over-is : (C : Chip) (b : ℕ) (p : Past) (u t : ℕ)
@@ -87,13 +87,13 @@ module _ (C : Chip) (q : Past) (t : ℕ) where
   some-entry (r ∷ s) y = omega arith
 
   pub pair28 : (k n m f : ℕ) → rule28 C q t ≡ Broken k n m f → (k ≡ 28) × Stay-pair C q t n m f
-  pair28 k n m f h = go (is Pde s) refl (eqb (edge s + C .stay + 1) t) refl h
+  pair28 k n m f h = go (is Pde s) refl (eqb (edge s + C .nine + 1) t) refl h
     where
       s : Past
       s = turned (upTo (t - 1) q)
 
-      go : (x : Bool) → is Pde s ≡ x → (y : Bool) → eqb (edge s + C .stay + 1) t ≡ y
-          → cond (x && y) (Broken 28 (number s) (C .stay) (C .stay + 1)) Fine ≡ Broken k n m f → (k ≡ 28) × Stay-pair C q t n m f
+      go : (x : Bool) → is Pde s ≡ x → (y : Bool) → eqb (edge s + C .nine + 1) t ≡ y
+          → cond (x && y) (Broken 28 (number s) (C .nine) (C .nine + 1)) Fine ≡ Broken k n m f → (k ≡ 28) × Stay-pair C q t n m f
       go true a true b g = (
         cc,
         record {
@@ -112,5 +112,19 @@ module _ (C : Chip) (q : Past) (t : ℕ) where
   pub stay-bad : Stayed C q t → rule28 C q t ≡ Fine → ⊥
   stay-bad w h =
       let e = latest-one changes (upTo (t - 1) q) (w .0) (w .1) in
-      let g : stayed (C .stay) (w .0) t ≡ Fine = ap (λ s. stayed (C .stay) s t) (sym e) ∙ h in
-      broken-fine (rw (w .2, eq-eqb (edge (w .0) + C .stay + 1) t (w .3)) at g)
+      let g : stayed (C .nine) (w .0) t ≡ Fine = ap (λ s. stayed (C .nine) s t) (sym e) ∙ h in
+      broken-fine (rw (w .2, eq-eqb (edge (w .0) + C .nine + 1) t (w .3)) at g)
+
+  pub pair31 : (k n m f : ℕ) → rule31 C q t ≡ Broken k n m f → (k ≡ 31) × Gap-pair C q t n m f
+  pair31 k n m f h = go (ltb (C .nine) (sinceRef p t)) refl h
+    where
+      p : Past
+      p = upTo (t - 1) q
+
+      go : (x : Bool) → ltb (C .nine) (sinceRef p t) ≡ x → cond x (Broken 31 (number (latest (is Ref) p)) (C .nine) (C .nine + 1)) Fine ≡ Broken k n m f
+          → (k ≡ 31) × Gap-pair C q t n m f
+      go true y g = (cc, record { passed = ltb-true _ _ y; partner-is = cc; needed-is = cc; found-is = cc })
+      go false y g = fine-broken g
+
+  pub parted-bad : Parted C q t → rule31 C q t ≡ Fine → ⊥
+  parted-bad w h = broken-fine (rw (lt-ltb (C .nine) (sinceRef (upTo (t - 1) q) t) w) at h)

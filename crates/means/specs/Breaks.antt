@@ -12,7 +12,7 @@ use Rattle.rules.specs.Banks.{start}
 use Rattle.rules.specs.Rules.{Row, spacing}
 use Rattle.means.specs.Partners.{Latest, Fourth}
 use Rattle.means.specs.Pairs.{speaksOf, mayFind, Lacks, Closing-kind}
-use Rattle.means.specs.Passing.{Late, Owing, Stayed}
+use Rattle.means.specs.Passing.{Late, Owing, Stayed, Parted}
 
 module _ (C : Chip) (r : Record) (p : Past) where
   -- the record r after the past p breaks the rule
@@ -37,3 +37,4 @@ module _ (C : Chip) (q : Past) where
     by-limit : (bank : ℕ) → bank < 8 → Late C q t bank → BreaksAt t 24
     by-debt : Owing C q t → BreaksAt t 25
     by-stay : Stayed C q t → BreaksAt t 28
+    by-gap : Parted C q t → BreaksAt t 31

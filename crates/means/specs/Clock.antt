@@ -6,8 +6,8 @@ use mathlib.Core.Path.{_≡_}
 use mathlib.Core.Bool.{Bool, true, cond, not, _&&_}
 use lib.Dec.{eqb}
 use Rattle.records.specs.declared.Command.the-variants.{Ref, Sre}
-use Rattle.rules.specs.Past.{Past, edge, changes, asleep, is, has, upTo}
-use Rattle.rules.specs.Deadlines.{awakeAt, owedAt}
+use Rattle.rules.specs.Past.{Past, edge, changes, asleep, is, latest, has, upTo}
+use Rattle.rules.specs.Deadlines.{awakeAt, owedAt, sinceRef}
 use Rattle.means.specs.Partners.{Latest}
 
 -- the awake clock at edge t of the recording q
@@ -42,3 +42,5 @@ pub record By-edge (T : ℕ) (q : Past) : Type 0 where
   -- never below -8"
   pub debt-starts : owed T q 0 ≡ 8
   pub debt : (t : ℕ) → owed T q (t + 1) ≡ owed T q t + cond (ticks T q t) 1 0 - cond (refreshes q (t + 1)) 1 0
+  -- Q-2: "counted here on the awake clock from edge 0 or the last REF": at the edge behind t, of the last REF up to t
+  pub since : (t : ℕ) → sinceRef (upTo t q) (t + 1) ≡ awake q (t + 1) - awake q (edge (latest (is Ref) (upTo t q)))

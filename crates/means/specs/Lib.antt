@@ -5,3 +5,4 @@ pub mod Passing
 pub mod Breaks
 pub mod Means
 pub mod Clock
+pub mod Unseen

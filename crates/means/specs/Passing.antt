@@ -1,5 +1,5 @@
--- Rules 24, 25 and 28 at an edge: what it is to break them, whom they name and with which clocks (01, "24 the ACT; 25 the last REF or none"; 02,
--- Q-1, "partner the entry").
+-- Rules 24, 25, 28 and 31 at an edge: what it is to break them, whom they name and with which clocks (01, "24 the ACT; 25 the last REF or none"; 02,
+-- Q-1, "partner the entry"; Q-2, "its partner the last REF or none").
 -- Assumes nothing.
 use Prim.Native.Nat.{ℕ, _+_, _-_, _≤_, _<_}
 use mathlib.Core.Path.{_≡_}
@@ -8,7 +8,7 @@ use Rattle.records.specs.declared.Command.the-variants.{Ref, Pde}
 use Rattle.chip.specs.declared.Chip.{Chip}
 use Rattle.rules.specs.Past.{Past, edge, number, changes, is, latest, upTo}
 use Rattle.rules.specs.Banks.{actOn, isIdle, status}
-use Rattle.rules.specs.Deadlines.{owedAt}
+use Rattle.rules.specs.Deadlines.{owedAt, sinceRef}
 use Rattle.means.specs.Partners.{Latest}
 
 -- a bank's time is over exactly where it is not idle and its latest ACT was just longer ago than it may be
@@ -43,14 +43,25 @@ module _ (C : Chip) (q : Past) (t : ℕ) where
 
   -- the latest change of CKE up to the edge before t is a power-down entry, and was just longer ago than a stay may be
   abbrev pub Stayed : Type 0
-  Stayed = (s : Past) × Latest changes (upTo (t - 1) q) s × (is Pde s ≡ true) × (edge s + C .stay + 1 ≡ t)
+  Stayed = (s : Past) × Latest changes (upTo (t - 1) q) s × (is Pde s ≡ true) × (edge s + C .nine + 1 ≡ t)
 
   -- "partner the entry"; shown as 24 is: needed its limit, found one more
   pub record Stay-pair (partner needed found : ℕ) : Type 0 where
     pub event : Past
     pub latest-of : Latest changes (upTo (t - 1) q) event
     pub entered : is Pde event ≡ true
-    pub passed : edge event + C .stay + 1 ≡ t
+    pub passed : edge event + C .nine + 1 ≡ t
     pub partner-is : partner ≡ number event
-    pub needed-is : needed ≡ C .stay
-    pub found-is : found ≡ C .stay + 1
+    pub needed-is : needed ≡ C .nine
+    pub found-is : found ≡ C .nine + 1
+
+  -- on the awake clock more than nine intervals have passed since the last REF up to the edge before t, or since edge 0
+  abbrev pub Parted : Type 0
+  Parted = C .nine < sinceRef (upTo (t - 1) q) t
+
+  -- "its partner the last REF or none, needed the limit, found one more"
+  pub record Gap-pair (partner needed found : ℕ) : Type 0 where
+    pub passed : Parted
+    pub partner-is : partner ≡ number (latest (is Ref) (upTo (t - 1) q))
+    pub needed-is : needed ≡ C .nine
+    pub found-is : found ≡ C .nine + 1

@@ -37,14 +37,14 @@ fn stay_of(level: bool, sleeps: bool, at: u64, stay: u32, x: u64) -> u64
     least_of(x, at + stay as u64 + 1)
 }
 
-// x, or the edge at which 9 would be owed if that is before.
+// x, or the edge at which 9 would be owed, or the last REF is too far back, if that is before.
 fn owing_of(d: Debt, x: u64) -> u64
     ensures { λ r. ⌜ r ≡ owingBy d x ⌝ }
 {
     if d.sleeps {
         return x;
     }
-    least_of(x, d.due)
+    least_of(least_of(x, d.due), d.gap)
 }
 
 // at: the latest change of CKE.

@@ -1,8 +1,9 @@
 // A rank's end: the verdict, the banks, the registers and the debt at an edge.
+use crate::deadlines::next24;
+use crate::deadlines::next25;
+use crate::deadlines::next28;
+use crate::deadlines::next31;
 use crate::numbers::of_two;
-use crate::said::next24;
-use crate::said::next25;
-use crate::said::next28;
 use crate::views::kept_of;
 use crate::views::regs_of;
 use crate::views::written_of;
@@ -97,7 +98,8 @@ fn next_late(chip: Chip, s: Rank, hi: u64) -> Late
     let x24 = next24(chip, s.banks, s.edge, hi);
     let x25 = next25(s.debt, no[0], hi);
     let x28 = next28(chip, s.level, s.debt.sleeps, at[6], no[6], hi);
-    sooner(x24, sooner(x25, x28))
+    let x31 = next31(chip, s.debt, no[0], hi);
+    sooner(x24, sooner(x25, sooner(x28, x31)))
 }
 
 fn told(x: Late, count: u32, end: u64) -> Verdict

@@ -60,7 +60,7 @@ pub(crate) fn come(
 ) -> Left
     requires { ⌜ Small chip ⌝ }
     requires { ⌜ e ≤ farEdge ⌝ }
-    requires { ⌜ debt .due ≤ farEdge ⌝ }
+    requires { ⌜ (debt .due ≤ farEdge) × (debt .gap ≤ farEdge) ⌝ }
     ensures { λ x. ⌜ lane.Leaves chip c r e n (now (actno .entry)) (now (shutat .entry)) (now (shutno .entry)) (now (holds .entry)) (device.deviceBy (now (at .entry)) (now (num .entry)) (now (need .entry)) (now (codes .entry)) (now (written .entry))) debt f (now (shutat .exit)) (now (shutno .exit)) (now (holds .exit)) (device.deviceBy (now (at .exit)) (now (num .exit)) (now (need .exit)) (now (codes .exit)) (now (written .exit))) (x .debt) (x .floor) (x .turned) ⌝ }
     ensures { λ x. ⌜ (getD (now (at .entry)) 6 0 ≤ lastEdge → e ≤ lastEdge → x .turned ≤ lastEdge) ⌝ }
 {

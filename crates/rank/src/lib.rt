@@ -8,6 +8,7 @@ mod clocks;
 mod closing;
 mod coming;
 mod counting;
+mod deadlines;
 mod device;
 mod entering;
 mod fold;

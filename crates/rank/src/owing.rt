@@ -1,4 +1,4 @@
-// The debt after a record: the edge at which 9 would be owed.
+// The debt after a record: the edge at which 9 would be owed, and that at which the last REF is too far back.
 use crate::numbers::of_two;
 use chip::Chip;
 use edges::Debt;
@@ -36,7 +36,7 @@ fn paid(trefi: u32, e: u64, due: u64) -> u64
 pub(crate) fn debt_next(chip: Chip, c: Command, e: u64, d: Debt) -> Debt
     requires { ⌜ Small chip ⌝ }
     requires { ⌜ e ≤ farEdge ⌝ }
-    requires { ⌜ d .due ≤ farEdge ⌝ }
+    requires { ⌜ (d .due ≤ farEdge) × (d .gap ≤ farEdge) ⌝ }
     ensures { λ x. ⌜ x ≡ next.debtNext chip c e d ⌝ }
 {
     let k = rank_of(c);
@@ -45,18 +45,22 @@ pub(crate) fn debt_next(chip: Chip, c: Command, e: u64, d: Debt) -> Debt
         return Debt {
             sleeps: d.sleeps,
             due: paid(chip.trefi, from, d.due),
+            gap: from + chip.nine as u64 + 1,
         };
     }
     if k == 9 {
         return Debt {
             sleeps: true,
             due: since(d.due, from),
+            gap: since(d.gap, from),
         };
     }
     if k == 10 {
+        let to = of_two(d.sleeps, e, 0);
         return Debt {
             sleeps: false,
-            due: of_two(d.sleeps, d.due + e, d.due),
+            due: d.due + to,
+            gap: d.gap + to,
         };
     }
     d

@@ -46,7 +46,7 @@ fn pass(
 ) -> Passed
     requires { ⌜ Small chip ⌝ }
     requires { ⌜ e ≤ lastEdge ⌝ }
-    requires { ⌜ debt .due ≤ farEdge ⌝ }
+    requires { ⌜ (debt .due ≤ farEdge) × (debt .gap ≤ farEdge) ⌝ }
     requires { ⌜ getD (now at) 6 0 ≤ lastEdge ⌝ }
     ensures { λ x. ⌜ lane.Passes chip c r e n (now (actno .entry)) (now (shutat .entry)) (now (shutno .entry)) (now (holds .entry)) (device.deviceBy (now (at .entry)) (now (num .entry)) (now (need .entry)) (now (codes .entry)) (now (written .entry))) debt f clear (now (shutat .exit)) (now (shutno .exit)) (now (holds .exit)) (device.deviceBy (now (at .exit)) (now (num .exit)) (now (need .exit)) (now (codes .exit)) (now (written .exit))) (x .debt) (x .floor) (x .clear) ⌝ }
 {
@@ -70,7 +70,7 @@ fn pass(
     );
     let d = left.debt;
     let g = left.floor;
-    let next = clear_next(c, chip.most, chip.stay, e, left.turned, d, clear);
+    let next = clear_next(c, chip.most, chip.nine, e, left.turned, d, clear);
     Passed {
         debt: d,
         floor: g,

@@ -1,4 +1,8 @@
-// What is said of a record: the gap before it, its edge, and rules 1 to 30.
+// What is said of a record: the gap before it, its edge, and rules 1 to 31.
+use crate::deadlines::next24;
+use crate::deadlines::next25;
+use crate::deadlines::next28;
+use crate::deadlines::next31;
 use crate::numbers::most_of;
 use crate::numbers::of_two;
 use crate::views::kept_of;
@@ -9,7 +13,6 @@ use answers::Break;
 use answers::Verdict;
 use chip::Chip;
 use edges::Banks;
-use edges::Debt;
 use edges::Rank;
 use edges::Waits;
 use kept::barred;
@@ -27,110 +30,24 @@ use records::Command;
 use records::Record;
 use records::command_of;
 use records::rank_of;
-use running::Kept;
 use running::Late;
 use running::Shared;
 use says::first;
 use says::late_at;
-use says::late_by;
 use says::sooner;
-use says::soonest;
 use says::verdict_at;
 use says::why;
 ghost use mathlib.Core.Path.{_≡_};
-ghost use Prim.Native.Nat.{ℕ, _+_, _≤_, _<_};
-ghost use lib.ListN.{getD};
+ghost use Prim.Native.Nat.{_+_, _≤_};
 ghost use mathlib.Core.Bool.{cond, not};
 ghost use Rattle.answers.specs.declared.Break.the-variants.{Fine};
 ghost use Rattle.running.specs.Breaks.{rule2};
 ghost use Rattle.running.specs.Down as down;
-ghost use Rattle.running.specs.Late as late;
-ghost use Rattle.running.specs.Next as next;
-ghost use Rattle.running.specs.Ranges.{Small, limit, lastEdge, farEdge};
+ghost use Rattle.running.specs.Ranges.{Small, limit};
 ghost use Rattle.edges.specs.Asks as asks;
 ghost use Rattle.edges.specs.Ranges.{Ranged};
 ghost use Rattle.edges.specs.Says as says;
 ghost use Rattle.edges.specs.Views.{keptsOf};
-
-// ── Deadlines ───────────────────────────────────────────────────────────────────────────────
-
-// The edge at which the bank breaks rule 24, or 0.
-fn due(chip: Chip, k: Kept) -> u64
-    requires { ⌜ Small chip ⌝ }
-    requires { ⌜ k .acted .at ≤ farEdge ⌝ }
-    ensures { λ r. ⌜ r ≡ next.due chip k ⌝ }
-{
-    let last = k.acted.at + chip.most as u64;
-    if k.shut.num < k.acted.num {
-        return last + 1;
-    }
-    if last < k.shut.at {
-        return last + 1;
-    }
-    0
-}
-
-fn dues_of(chip: Chip, banks: Banks) -> [u64; 8]
-    requires { ⌜ Small chip ⌝ }
-    requires { ⌜ ((b : ℕ) → b < 8 → getD (banks .actat) b 0 ≤ lastEdge) ⌝ }
-    ensures { λ r. ⌜ r ≡ says.duesOf chip banks ⌝ }
-{
-    let mut out = [0u64; 8];
-    let mut i: usize = 0;
-    while i < 8 {
-        out[i] = due(chip, kept_of(chip, banks, i));
-        i += 1;
-    }
-    out
-}
-
-// Rule 24 after the edge lo and before hi; at hi if there is none.
-pub(crate) fn next24(chip: Chip, banks: Banks, lo: u64, hi: u64) -> Late
-    requires { ⌜ Small chip ⌝ }
-    requires { ⌜ ((b : ℕ) → b < 8 → getD (banks .actat) b 0 ≤ lastEdge) ⌝ }
-    ensures { λ r. ⌜ r ≡ says.next24 chip banks lo hi ⌝ }
-{
-    let actno = banks.actno;
-    let pick = soonest(dues_of(chip, banks), lo, hi);
-    let b = pick.bank as usize;
-    late_by(24, pick.at, actno[b], chip.most)
-}
-
-// Rule 25; at hi where the part sleeps.
-pub(crate) fn next25(d: Debt, partner: u32, hi: u64) -> Late
-    ensures { λ r. ⌜ r ≡ says.next25 d partner hi ⌝ }
-{
-    Late {
-        at: of_two(d.sleeps, hi, d.due),
-        rule: 25,
-        partner: partner as u64,
-        needed: 8,
-        found: 9,
-    }
-}
-
-fn stay_until(level: bool, sleeps: bool, at: u64, stay: u32, hi: u64) -> u64
-    requires { ⌜ at ≤ lastEdge ⌝ }
-    ensures { λ r. ⌜ r ≡ late.stayUntil level sleeps at stay hi ⌝ }
-{
-    if level | sleeps {
-        return hi;
-    }
-    at + stay as u64 + 1
-}
-
-// Rule 28, of the latest change of CKE; at hi where the part is not in power-down.
-pub(crate) fn next28(chip: Chip, level: bool, sleeps: bool, at: u64, no: u32, hi: u64) -> Late
-    requires { ⌜ at ≤ lastEdge ⌝ }
-    ensures { λ r. ⌜ r ≡ late.lateBy 28 (late.stayUntil level sleeps at (chip .stay) hi) no (chip .stay) ⌝ }
-{
-    late_by(
-        28,
-        stay_until(level, sleeps, at, chip.stay, hi),
-        no,
-        chip.stay,
-    )
-}
 
 // ── A record ────────────────────────────────────────────────────────────────────────────────
 
@@ -276,18 +193,20 @@ fn says_by(
     x24: Late,
     x25: Late,
     x28: Late,
+    x31: Late,
     rules: Break,
     owes: Break,
     changed: Break,
     left: Break,
 ) -> Verdict
-    ensures { λ r. ⌜ r ≡ says.saysBy e n x24 x25 x28 rules owes changed left ⌝ }
+    ensures { λ r. ⌜ r ≡ says.saysBy e n x24 x25 x28 x31 rules owes changed left ⌝ }
 {
-    let x = sooner(x24, sooner(x25, x28));
+    let x = sooner(x24, sooner(x25, sooner(x28, x31)));
     if x.at < e {
         return verdict_at(x.at, 0, why(x));
     }
-    let at30 = verdict_at(e, n, left);
+    let at31 = verdict_at(e, 0, late_at(e, x31));
+    let at30 = first(verdict_at(e, n, left), at31);
     let at28 = first(verdict_at(e, 0, late_at(e, x28)), at30);
     let at26 = first(verdict_at(e, n, changed), at28);
     let at25 = first(verdict_at(e, 0, owes), at26);
@@ -309,9 +228,21 @@ pub(crate) fn said(chip: Chip, s: Rank, r: Record) -> Verdict
     let x24 = next24(chip, s.banks, s.edge, e + 1);
     let x25 = next25(s.debt, no[0], e + 1);
     let x28 = next28(chip, s.level, s.debt.sleeps, at[6], no[6], e + 1);
+    let x31 = next31(chip, s.debt, no[0], e + 1);
     let rules = broken_in(chip, s, c, r, e);
     let owes = owing(c, e, x25);
     let changed = changed_in(chip, s, c, r, e);
     let left = left_in(chip, s, c, r, e);
-    says_by(e, s.count + 1, x24, x25, x28, rules, owes, changed, left)
+    says_by(
+        e,
+        s.count + 1,
+        x24,
+        x25,
+        x28,
+        x31,
+        rules,
+        owes,
+        changed,
+        left,
+    )
 }

@@ -113,7 +113,7 @@ pub(crate) fn smoothly(
         d,
         level,
         devat[6],
-        chip.stay,
+        chip.nine,
     );
     let real = numbered(actno, no);
     while at < bytes.len() {

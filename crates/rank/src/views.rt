@@ -295,6 +295,7 @@ pub(crate) fn shared_of(chip: Chip, banks: Banks, acts: Acts, device: Device) ->
             sleeps: false,
             phase: 0,
             owed: 0,
+            gap: 0,
         },
         regs: regs_of(device),
         written: written_of(device),

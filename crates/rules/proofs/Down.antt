@@ -49,7 +49,7 @@ module _ (C : Chip) where
       go false false x y s c g = refl
 
 -- while CKE stays low
-low-is : (r : Record) (p : Past) → cke p ≡ false → changes (r ∷ p) ≡ false → command (r ∷ p) ≡ Low
+pub low-is : (r : Record) (p : Past) → cke p ≡ false → changes (r ∷ p) ≡ false → command (r ∷ p) ≡ Low
 unfolding commandOf
 low-is r p x y = let z : r .cke ≡ false = rw x at y in rw (x, z)
 

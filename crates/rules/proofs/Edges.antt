@@ -6,10 +6,10 @@ use native.Mathlib.Omega.{arith}
 use native.Mathlib.Decide.{decLt, ℕ-discrete}
 use mathlib.Core.Path.{_≡_, refl, sym, ap, _∙_}
 use mathlib.Core.Logic.{⊎-elim}
-use mathlib.Core.Bool.{true, false, cond}
+use mathlib.Core.Bool.{Bool, true, false, cond}
 use mathlib.Core.List.{[], _∷_}
 use lib.Dec.{ltb, leb}
-use borrow.Author.Tests.{ltb-true, ltb-false, leb-false, le-leb, lt-leb, eq-eqb, ne-eqb}
+use borrow.Author.Tests.{ltb-true, ltb-false, leb-true, leb-false, eq-eqb, ne-eqb}
 use Rattle.answers.specs.declared.Break.{Break}
 use Rattle.answers.specs.declared.Break.the-variants.{Fine, Broken}
 use Rattle.records.specs.declared.Record.{Record}
@@ -19,32 +19,20 @@ use Rattle.running.specs.declared.Late.{Late}
 use Rattle.running.specs.Late.{why}
 use Rattle.running.specs.Deadlines.{owing}
 use Rattle.running.specs.Said.{lateAt}
-use Rattle.rules.specs.Past.{Past, edge, number, changes, is, latest, upTo}
+use Rattle.rules.specs.Past.{Past, edge, number, changes, asleep, is, latest, upTo}
 use Rattle.answers.specs.Answer.{orElse, lowest}
 use Rattle.rules.specs.Banks.{status}
 use Rattle.rules.specs.Rules.{checks, changeChecks, exitChecks, breakAt}
-use Rattle.rules.specs.Deadlines.{late, stayed, rule24, rule25, rule28, owedTo, owedAt}
+use Rattle.rules.specs.Deadlines.{late, stayed, parted, rule24, rule25, rule28, rule31, awakeTo, awakeAt, owedTo, owedAt, sinceRef}
 use Rattle.rules.specs.Verdict.{clean, stop, keep, told, recordSays, brokenAt, verdictTo, Apart}
 use Rattle.rules.specs.Down.{turned, down}
 use Rattle.rules.proofs.Generic.{decide, broken-fine}
-use Rattle.rules.proofs.Numbered.{keep-clean, keep-none, told-clean, told-both, inOrder, by-number, record-after}
+use Rattle.rules.proofs.UpTo.{up-to-all, up-to-skip, up-to-before}
+use Rattle.rules.proofs.Numbered.{keep-clean, told-clean, told-both, inOrder, by-number, record-after}
 use Rattle.rules.proofs.Clean.{broken, Clean}
-use Rattle.rules.proofs.Debts.{owed-now}
+use Rattle.rules.proofs.Debts.{gapTo, owed-now, since-at, gap-step}
 use Rattle.rules.proofs.Sense.{verdict-next, skip-to, stays-to, clean-edges, clean-iff}
-use Rattle.rules.proofs.Gap.{Due, now24, now25, now28, nowAny, late24-at, late25-at, late28-at}
-
--- ── Records up to an edge ───────────────────────────────────────────────────────────────────
-
--- all of them from the latest on, and not the latest before it
-pub up-to-all : (t : ℕ) (p : Past) → edge p ≤ t → upTo t p ≡ p
-up-to-all t [] h = refl
-up-to-all t (r ∷ p) h = rw (le-leb (edge (r ∷ p)) t h)
-
-pub up-to-skip : (t : ℕ) (r : Record) (p : Past) → t < edge (r ∷ p) → upTo t (r ∷ p) ≡ upTo t p
-up-to-skip t r p h = rw (lt-leb (edge (r ∷ p)) t h)
-
-pub up-to-before : (r : Record) (p : Past) (t : ℕ) → edge p < t → t ≤ edge (r ∷ p) → upTo (t - 1) (r ∷ p) ≡ p
-up-to-before r p t l m = up-to-skip (t - 1) r p (omega arith) ∙ up-to-all (t - 1) p (omega arith)
+use Rattle.rules.proofs.Gap.{Due, now24, now25, now28, now31, nowAny, late24-at, late25-at, late28-at, late31-at}
 
 module _ (C : Chip) where
   -- ── A later record ────────────────────────────────────────────────────────────────────────
@@ -57,14 +45,18 @@ module _ (C : Chip) where
     owed-same s l = ap (λ u. owing (owedAt (C .trefi) u s) (number (latest (is Ref) u))) (up-to-skip s r p l)
 
     stay-same : (s : ℕ) → 0 < s → s < edge (r ∷ p) → rule28 C (r ∷ p) s ≡ rule28 C p s
-    stay-same s a l = ap (λ u. stayed (C .stay) (turned u) s) (up-to-skip (s - 1) r p (omega arith))
+    stay-same s a l = ap (λ u. stayed (C .nine) (turned u) s) (up-to-skip (s - 1) r p (omega arith))
+
+    parted-same : (s : ℕ) → 0 < s → s < edge (r ∷ p) → rule31 C (r ∷ p) s ≡ rule31 C p s
+    parted-same s a l = ap (λ u. parted (C .nine) u s) (up-to-skip (s - 1) r p (omega arith))
 
     broken-same : (s : ℕ) → 0 < s → s < edge (r ∷ p) → brokenAt C (r ∷ p) s ≡ brokenAt C p s
     broken-same s a l =
         by-number C (r ∷ p) s
         ∙ rw (ne-eqb (edge (r ∷ p)) s (λ e. omega arith))
         (λ i. inOrder (recordSays (breakAt (checks C)) p s) (told s 0 (late-same s a l i)) (told s 0 (owed-same s l i))
-        (recordSays (breakAt (changeChecks C)) p s) (told s 0 (stay-same s a l i)) (recordSays (breakAt (exitChecks C)) p s))
+        (recordSays (breakAt (changeChecks C)) p s) (told s 0 (stay-same s a l i)) (recordSays (breakAt (exitChecks C)) p s)
+        (told s 0 (parted-same s a l i)))
         ∙ sym (by-number C p s)
 
     -- the edges before it are as they were
@@ -86,6 +78,18 @@ module _ (C : Chip) where
 
   pub clean-past : (p : Past) → Apart p → verdictTo C p (edge p) ≡ clean → Clean C p
   clean-past p apart z = records-clean p apart (clean-edges C p (edge p) z)
+
+  -- clean up to an edge is clean up to each edge before it
+  earlier : (p : Past) (u t : ℕ) → t ≤ u → verdictTo C p u ≡ clean → verdictTo C p t ≡ clean
+  earlier p u t l z = clean-iff C p t .1 (λ s a b. clean-edges C p u z s a (omega arith))
+
+  pub clean-up-to : (u : ℕ) (p : Past) → Apart p → verdictTo C p u ≡ clean → Clean C (upTo u p)
+  clean-up-to u [] apart z = refl
+  clean-up-to u (r ∷ p) apart z = ⊎-elim
+      (λ (y : leb (edge (r ∷ p)) u ≡ true). rw y (clean-past (r ∷ p) apart (earlier (r ∷ p) u (edge (r ∷ p)) (leb-true (edge (r ∷ p)) u y) z)))
+      (λ (n : leb (edge (r ∷ p)) u ≡ false).
+      rw n (clean-up-to u p (apart .1) (sym (verdict-same r p u (leb-false (edge (r ∷ p)) u n)) ∙ z)))
+      (decide (leb (edge (r ∷ p)) u))
 
   -- ── A gap ─────────────────────────────────────────────────────────────────────────────────
 
@@ -113,6 +117,13 @@ module _ (C : Chip) where
       before t l m u =
           skip-to C q lo t l (λ w a b. same w a (omega arith) ∙ ap (told w 0) (d .none w a (omega arith) (omega arith))) z
 
+  -- four deadlines at an edge, the first by number
+  told-four : (t : ℕ) (x y d g : Break)
+      → told t 0 (orElse x (orElse y (orElse d g))) ≡ keep (told t 0 x) (keep (told t 0 y) (keep (told t 0 d) (told t 0 g)))
+  told-four t x y d g =
+      told-both t 0 x (orElse y (orElse d g))
+      ∙ ap (keep (told t 0 x)) (told-both t 0 y (orElse d g) ∙ ap (keep (told t 0 y)) (told-both t 0 d g))
+
   -- after p, of p itself or of p with one more record
   only-late :
       0 < C .trefi → (q p : Past) (t : ℕ) → edge p < t → upTo (t - 1) q ≡ p → upTo t q ≡ p
@@ -121,9 +132,8 @@ module _ (C : Chip) where
   only-late z q p t l h g f =
       by-number C q t
       ∙ (λ i. inOrder (f (breakAt (checks C)) i) (told t 0 (late24-at C p q t l h i)) (told t 0 (late25-at C p z q t g i))
-      (f (breakAt (changeChecks C)) i) (told t 0 (late28-at C p q t h i)) (f (breakAt (exitChecks C)) i))
-      ∙ ap (λ v. keep (told t 0 (now24 C p t)) (keep (told t 0 (now25 C p t)) v)) (keep-none (told t 0 (now28 C p t)))
-      ∙ sym (told-both t 0 (now24 C p t) (orElse (now25 C p t) (now28 C p t)) ∙ ap (keep (told t 0 (now24 C p t))) (told-both t 0 (now25 C p t) (now28 C p t)))
+      (f (breakAt (changeChecks C)) i) (told t 0 (late28-at C p q t h i)) (f (breakAt (exitChecks C)) i) (told t 0 (late31-at C p q t h i)))
+      ∙ sym (told-four t (now24 C p t) (now25 C p t) (now28 C p t) (now31 C p t))
 
   pub late-after : 0 < C .trefi → (p : Past) (t : ℕ) → edge p < t → brokenAt C p t ≡ told t 0 (nowAny C p t)
   late-after z p t l = only-late z p p t l (up-to-all (t - 1) p (omega arith)) (up-to-all t p (omega arith)) (λ k. record-after k p t l)
@@ -164,7 +174,7 @@ module _ (C : Chip) where
       ≡ inOrder (told (edge (r ∷ p)) (number (r ∷ p)) (breakAt (checks C) r p)) (told (edge (r ∷ p)) 0 (now24 C p (edge (r ∷ p))))
       (told (edge (r ∷ p)) 0 (owing (owedTo (C .trefi) (r ∷ p)) (number (latest (is Ref) (r ∷ p)))))
       (told (edge (r ∷ p)) (number (r ∷ p)) (breakAt (changeChecks C) r p)) (told (edge (r ∷ p)) 0 (now28 C p (edge (r ∷ p))))
-      (told (edge (r ∷ p)) (number (r ∷ p)) (breakAt (exitChecks C) r p))
+      (told (edge (r ∷ p)) (number (r ∷ p)) (breakAt (exitChecks C) r p)) (told (edge (r ∷ p)) 0 (now31 C p (edge (r ∷ p))))
   at-record z r p far =
       let e = edge (r ∷ p) in
       by-number C (r ∷ p) e
@@ -172,10 +182,76 @@ module _ (C : Chip) where
       (λ i. inOrder (told e (number (r ∷ p)) (breakAt (checks C) r p))
       (told e 0 (late24-at C p (r ∷ p) e (omega arith) (up-to-before r p e (omega arith) (omega arith)) i)) (told e 0 (owing-now z (r ∷ p) i))
       (told e (number (r ∷ p)) (breakAt (changeChecks C) r p))
-      (told e 0 (late28-at C p (r ∷ p) e (up-to-before r p e (omega arith) (omega arith)) i)) (told e (number (r ∷ p)) (breakAt (exitChecks C) r p)))
+      (told e 0 (late28-at C p (r ∷ p) e (up-to-before r p e (omega arith) (omega arith)) i)) (told e (number (r ∷ p)) (breakAt (exitChecks C) r p))
+      (told e 0 (late31-at C p (r ∷ p) e (up-to-before r p e (omega arith) (omega arith)) i)))
+
+  -- ── Since the last REF ────────────────────────────────────────────────────────────────────
+
+  fine31 : (p : Past) (u : ℕ) → brokenAt C p u ≡ clean → rule31 C p u ≡ Fine
+  fine31 p u k =
+      let b = keep-clean _ _ (keep-clean _ _ (keep-clean _ _ (sym (by-number C p u) ∙ k) .1) .1) .1 in
+      told-clean u 0 (rule31 C p u) (keep-clean _ _ (keep-clean _ _ (keep-clean _ _ b .1) .1) .1)
+
+  not-parted : (p : Past) (t : ℕ) → now31 C p t ≡ Fine → sinceRef p t ≤ C .nine
+  not-parted p t w = ⊎-elim
+      (λ (y : ltb (C .nine) (sinceRef p t) ≡ true). absurd (broken-fine (rw y at w)))
+      (λ (n : ltb (C .nine) (sinceRef p t) ≡ false). ltb-false _ _ n)
+      (decide (ltb (C .nine) (sinceRef p t)))
+
+  -- a record's edge counts before it, and a REF then begins anew
+  since-record : (r : Record) (p : Past) → sinceRef (r ∷ p) (edge (r ∷ p)) ≤ sinceRef p (edge (r ∷ p))
+  since-record r p =
+      let m : edge (r ∷ p) - edge p ≡ r .step = omega arith in
+      let z : edge (r ∷ p) - edge (r ∷ p) ≡ 0 = omega arith in
+      go (is Ref (r ∷ p)) (asleep (r ∷ p)) (gap-step r p)
+      (since-at (r ∷ p) (edge (r ∷ p)) ∙ ap (λ x. gapTo (r ∷ p) + cond (asleep (r ∷ p)) 0 x) z)
+      (since-at p (edge (r ∷ p)) ∙ ap (λ x. gapTo p + cond (asleep p) 0 x) m)
+    where
+      go : (x y : Bool) → cond x 0 (gapTo p + cond (asleep p) 0 (r .step)) ≡ gapTo (r ∷ p)
+          → sinceRef (r ∷ p) (edge (r ∷ p)) ≡ gapTo (r ∷ p) + cond y 0 0 → sinceRef p (edge (r ∷ p)) ≡ gapTo p + cond (asleep p) 0 (r .step)
+          → sinceRef (r ∷ p) (edge (r ∷ p)) ≤ sinceRef p (edge (r ∷ p))
+      go true true g s o = omega arith
+      go true false g s o = omega arith
+      go false true g s o = omega arith
+      go false false g s o = omega arith
+
+  -- at an edge at which nothing is broken the last REF is not too far back
+  pub near-ref-at : (p : Past) → Apart p → (u : ℕ) → (0 < u → brokenAt C p u ≡ clean) → sinceRef (upTo u p) u ≤ C .nine
+  unfolding sinceRef awakeAt awakeTo asleep
+  near-ref-at [] a u h = elim (decLt 0 u) [
+    | yes l ↦ not-parted [] u (fine31 [] u (h l))
+    | no l ↦ omega arith
+  ]
+  near-ref-at (r ∷ p) a u h = ⊎-elim
+      (λ (y : leb (edge (r ∷ p)) u ≡ true). rw y (here (leb-true (edge (r ∷ p)) u y)))
+      (λ (n : leb (edge (r ∷ p)) u ≡ false). rw n (near-ref-at p (a .1) u (λ l. sym (broken-same r p u l (leb-false (edge (r ∷ p)) u n)) ∙ h l)))
+      (decide (leb (edge (r ∷ p)) u))
+    where
+      far : 1 ≤ r .step
+      far = a .0
+
+      here : edge (r ∷ p) ≤ u → sinceRef (r ∷ p) u ≤ C .nine
+      here l =
+          let w = fine31 (r ∷ p) u (h (omega arith)) in
+          elim (ℕ-discrete (edge (r ∷ p)) u) [
+            | yes q ↦ rw (← q) (omega (
+              arith,
+              since-record r p,
+              not-parted p (edge (r ∷ p))
+                  (sym (late31-at C p (r ∷ p) (edge (r ∷ p)) (up-to-before r p (edge (r ∷ p)) (omega arith) (omega arith))) ∙ rw (← q) at w),
+            ))
+            | no q ↦ not-parted (r ∷ p) u (sym (late31-at C (r ∷ p) (r ∷ p) u (up-to-all (u - 1) (r ∷ p) (omega arith))) ∙ w)
+          ]
+
+  -- so after a clean past
+  pub near-ref : (p : Past) → Apart p → verdictTo C p (edge p) ≡ clean → gapTo p ≤ C .nine
+  near-ref p a h =
+      let w = near-ref-at p a (edge p) (λ l. clean-edges C p (edge p) h (edge p) l (omega arith)) in
+      let e = ap (λ u. sinceRef u (edge p)) (up-to-all (edge p) p (omega arith)) in
+      omega (arith, w, e, since-at p (edge p))
 
   -- after a clean past a stay in power-down is not too long
-  pub near-stay : (p : Past) → Apart p → verdictTo C p (edge p) ≡ clean → down p ≡ true → edge p ≤ edge (turned p) + C .stay
+  pub near-stay : (p : Past) → Apart p → verdictTo C p (edge p) ≡ clean → down p ≡ true → edge p ≤ edge (turned p) + C .nine
   near-stay [] a h y = omega arith
   near-stay (r ∷ p) a h y = ⊎-elim
       (λ (c : changes (r ∷ p) ≡ true). rw c (omega arith))
@@ -184,20 +260,20 @@ module _ (C : Chip) where
       let far : 1 ≤ r .step = a .0 in
       let old : verdictTo C p (edge p) ≡ clean = sym (verdict-same r p (edge p) (omega arith)) ∙ clean-iff C (r ∷ p) (edge p) .1 (λ s u v. clean-edges C (r ∷ p) (edge (r ∷ p)) h s u (omega arith)) in
       let l = near-stay p (a .1) old d in
-      rw n (elim (decLt (edge (turned p) + C .stay) (edge (r ∷ p))) [
+      rw n (elim (decLt (edge (turned p) + C .nine) (edge (r ∷ p))) [
         | yes m ↦ absurd (passed n d l m)
         | no m ↦ omega arith
       ]))
       (decide (changes (r ∷ p)))
     where
-      passed : changes (r ∷ p) ≡ false → down p ≡ true → edge p ≤ edge (turned p) + C .stay → edge (turned p) + C .stay < edge (r ∷ p) → ⊥
+      passed : changes (r ∷ p) ≡ false → down p ≡ true → edge p ≤ edge (turned p) + C .nine → edge (turned p) + C .nine < edge (r ∷ p) → ⊥
       passed n d l m =
-          let t = edge (turned p) + C .stay + 1 in
+          let t = edge (turned p) + C .nine + 1 in
           let k = clean-edges C (r ∷ p) (edge (r ∷ p)) h t (omega arith) (omega arith) in
           let w = keep-clean _ _ (keep-clean _ _ (keep-clean _ _ (keep-clean _ _ (sym (by-number C (r ∷ p) t) ∙ k) .1) .1) .1) .1 in
           let f = told-clean t 0 (rule28 C (r ∷ p) t) (keep-clean _ _ w .0) in
-          let g : stayed (C .stay) (turned p) (edge (turned p) + C .stay + 1) ≡ Fine = ap (λ u. stayed (C .stay) (turned u) t) (sym (up-to-before r p t (omega arith) (omega arith))) ∙ f in
-          broken-fine (rw (d, eq-eqb (edge (turned p) + C .stay + 1) (edge (turned p) + C .stay + 1) refl) at g)
+          let g : stayed (C .nine) (turned p) (edge (turned p) + C .nine + 1) ≡ Fine = ap (λ u. stayed (C .nine) (turned u) t) (sym (up-to-before r p t (omega arith) (omega arith))) ∙ f in
+          broken-fine (rw (d, eq-eqb (edge (turned p) + C .nine + 1) (edge (turned p) + C .nine + 1) refl) at g)
 
 -- a deadline that is not before e passes at e, or not
 pub late-at : (f : ℕ → Break) (lo e hi : ℕ) (x : Late) → lo < e → e < hi → e ≤ x .at → Due f lo hi x → lateAt e x ≡ f e

@@ -1,4 +1,4 @@
--- Rules 24, 25 and 28 over a gap: the judge's soonest deadline is the first edge after the latest record at which a deadline passes.
+-- Rules 24, 25, 28 and 31 over a gap: the judge's soonest deadline is the first edge after the latest record at which a deadline passes.
 -- Assumes nothing.
 use Prim.Native.Nat.{ℕ, zero, suc, _+_, _-_, _*_, _/_, _%_, _≤_, _<_}
 use native.Mathlib.Nat.{mod-lt}
@@ -8,7 +8,7 @@ use mathlib.Core.Path.{_≡_, refl, sym, ap, _∙_, subst}
 use mathlib.Core.Logic.{⊎-elim}
 use mathlib.Core.Bool.{Bool, true, false, cond, not, _&&_, _||_, true≢false}
 use lib.Dec.{ltb, leb}
-use borrow.Author.Tests.{ltb-true, ltb-false, leb-true, leb-false, le-leb, lt-leb, eq-eqb, ne-eqb}
+use borrow.Author.Tests.{ltb-true, ltb-false, leb-true, leb-false, le-leb, lt-leb, lt-ltb, le-ltb, eq-eqb, ne-eqb}
 use Rattle.laws.specs.Eight.{table}
 use Rattle.laws.proofs.Eight.{getD-table}
 use Rattle.answers.specs.declared.Break.{Break}
@@ -20,15 +20,15 @@ use Rattle.running.specs.declared.Late.{Late}
 use Rattle.running.specs.declared.Pick.{Pick}
 use Rattle.running.specs.Next.{due}
 use Rattle.running.specs.Late.{better, soonest, why, sooner, lateBy}
-use Rattle.running.specs.Deadlines.{next24, next25, next28, owing}
+use Rattle.running.specs.Deadlines.{next24, next25, next28, next31, owing}
 use Rattle.rules.specs.Past.{Past, edge, number, cke, asleep, is, latest, upTo}
 use Rattle.answers.specs.Answer.{orElse, lowest}
 use Rattle.rules.specs.Banks.{status}
-use Rattle.rules.specs.Deadlines.{late, stayed, rule24, rule25, rule28, awakeTo, owedTo, owedAt}
+use Rattle.rules.specs.Deadlines.{late, stayed, parted, rule24, rule25, rule28, rule31, awakeTo, owedTo, owedAt, sinceRef}
 use Rattle.rules.specs.Down.{turned, down}
 use Rattle.rules.proofs.Generic.{decide}
 use Rattle.rules.proofs.Clean.{lowest-ext}
-use Rattle.rules.proofs.Debts.{debtOf, reaches, ahead, owed-at}
+use Rattle.rules.proofs.Debts.{debtOf, gapTo, reaches, ahead, owed-at, since-at}
 use Rattle.rules.proofs.Summary.{mark-at, kept, rests, shared, summary}
 use Rattle.rules.proofs.Status.{mark-num, status-of, lateNow, late-now}
 
@@ -123,7 +123,7 @@ due-both f g lo hi x y d e = ⊎-elim
 -- ── After the past p ────────────────────────────────────────────────────────────────────────
 
 module _ (C : Chip) (p : Past) where
-  -- rules 24, 25 and 28 at an edge t after p, from what is kept
+  -- rules 24, 25, 28 and 31 at an edge t after p, from what is kept
   abbrev pub now24 : ℕ → Break
   now24 t = lowest (λ b. lateNow C (kept C p b) t) 8
 
@@ -143,14 +143,20 @@ module _ (C : Chip) (p : Past) where
       ∙ ap (λ o. owing o (number (latest (is Ref) p))) (owed-at z p t)
 
   abbrev pub now28 : ℕ → Break
-  now28 t = stayed (C .stay) (turned p) t
+  now28 t = stayed (C .nine) (turned p) t
 
   pub late28-at : (q : Past) (t : ℕ) → upTo (t - 1) q ≡ p → rule28 C q t ≡ now28 t
-  late28-at q t h = ap (λ u. stayed (C .stay) (turned u) t) h
+  late28-at q t h = ap (λ u. stayed (C .nine) (turned u) t) h
 
-  -- all three, by number
+  abbrev pub now31 : ℕ → Break
+  now31 t = parted (C .nine) p t
+
+  pub late31-at : (q : Past) (t : ℕ) → upTo (t - 1) q ≡ p → rule31 C q t ≡ now31 t
+  late31-at q t h = ap (λ u. parted (C .nine) u t) h
+
+  -- all four, by number
   abbrev pub nowAny : ℕ → Break
-  nowAny t = orElse (now24 t) (orElse (now25 t) (now28 t))
+  nowAny t = orElse (now24 t) (orElse (now25 t) (orElse (now28 t) (now31 t)))
 
   abbrev dues : ℕ → ℕ
   dues b = due C (kept C p b)
@@ -172,25 +178,45 @@ module _ (C : Chip) (p : Past) where
       }
 
   -- rule 28 after the latest record, up to which the stay was not too long
-  module _ (is-down : down p ≡ not (cke p || asleep p)) (near : down p ≡ true → edge p ≤ edge (turned p) + C .stay) where
+  module _ (is-down : down p ≡ not (cke p || asleep p)) (near : down p ≡ true → edge p ≤ edge (turned p) + C .nine) where
     pub due28 : (hi : ℕ) → Due now28 (edge p) hi (next28 C (summary C p) hi)
     unfolding next28 summary shared rests debtOf
     due28 hi = rw (mark-num (λ _. C .tcke) (turned p), mark-at (λ _. C .tcke) (turned p)) (go (down p) refl (cke p || asleep p) is-down)
       where
         at : ℕ
-        at = edge (turned p) + C .stay + 1
+        at = edge (turned p) + C .nine + 1
 
         late : (u : ℕ) → Late
-        late u = lateBy 28 u (number (turned p)) (C .stay)
+        late u = lateBy 28 u (number (turned p)) (C .nine)
 
         go : (d : Bool) → down p ≡ d → (x : Bool) → d ≡ not x → Due now28 (edge p) hi (late (cond x hi at))
         go true y true e = absurd (true≢false e)
         go true y false e = record {
-          none = λ t a b c. rw (y, ne-eqb (edge (turned p) + C .stay + 1) t (λ w. omega arith));
-          hit = λ m. (omega (arith, near y), rw (y, eq-eqb (edge (turned p) + C .stay + 1) (edge (turned p) + C .stay + 1) refl));
+          none = λ t a b c. rw (y, ne-eqb (edge (turned p) + C .nine + 1) t (λ w. omega arith));
+          hit = λ m. (omega (arith, near y), rw (y, eq-eqb (edge (turned p) + C .nine + 1) (edge (turned p) + C .nine + 1) refl));
         }
         go false n true e = record { none = λ t a b c. rw n; hit = λ m. absurd (omega arith) }
         go false n false e = absurd (true≢false (sym e))
+
+  -- rule 31 after the latest record, up to which the last REF was not too far back
+  pub due31 : gapTo p ≤ C .nine → (hi : ℕ) → Due now31 (edge p) hi (next31 C (summary C p) hi)
+  unfolding next31 summary shared rests debtOf
+  due31 near hi = rw (mark-num (λ _. C .trfc) (latest (is Ref) p)) (go (asleep p) refl)
+    where
+      n : ℕ
+      n = number (latest (is Ref) p)
+
+      kept-fine : (t x : ℕ) → sinceRef p t ≡ x → x ≤ C .nine → now31 t ≡ Fine
+      kept-fine t x e l = rw (e, le-ltb (C .nine) x l)
+
+      go : (s : Bool) → asleep p ≡ s → Due now31 (edge p) hi (lateBy 31 (cond s hi (edge p + (C .nine + 1 - gapTo p))) n (C .nine))
+      go true y = record { none = λ t a b c. kept-fine t (gapTo p + 0) (since-at p t ∙ rw y) (omega arith); hit = λ m. absurd (omega arith) }
+      go false y =
+          let at = edge p + (C .nine + 1 - gapTo p) in
+          record {
+            none = λ t a b c. kept-fine t (gapTo p + (t - edge p)) (since-at p t ∙ rw y) (omega arith);
+            hit = λ m. (omega arith, rw (since-at p (edge p + (C .nine + 1 - gapTo p)), y, lt-ltb (C .nine) (gapTo p + (at - edge p)) (omega arith)));
+          }
 
   module _ (z : 0 < C .trefi) (small : owedTo (C .trefi) p ≤ 16) where
     abbrev T : ℕ

@@ -12,6 +12,7 @@ pub mod Furthest
 pub mod Moves
 pub mod Status
 pub mod Down
+pub mod Refreshed
 pub mod Words
 pub mod Either
 pub mod Entry
@@ -23,6 +24,7 @@ pub mod Agree
 pub mod Changing
 pub mod Numbered
 pub mod Sense
+pub mod UpTo
 pub mod Gap
 pub mod Edges
 pub mod Turn

@@ -1,9 +1,9 @@
--- Rules 24, 25 and 28, which can pass at an edge with no record: 01, "Commands and the 25 rules", last of the rules; and 02, Q-1.
+-- Rules 24, 25, 28 and 31, which can pass at an edge with no record: 01, "Commands and the 25 rules", last of the rules; and 02, Q-1 and Q-2.
 -- Assumes nothing.
 use Prim.Native.Nat.{ℕ, _+_, _-_, _/_}
 use mathlib.Core.Bool.{Bool, false, cond, _&&_}
 use mathlib.Core.List.{[], _∷_}
-use lib.Dec.{eqb, leb}
+use lib.Dec.{eqb, leb, ltb}
 use Rattle.records.specs.declared.Command.the-variants.{Ref, Pde}
 use Rattle.chip.specs.declared.Chip.{Chip}
 use Rattle.answers.specs.declared.Bank.{Bank}
@@ -65,4 +65,20 @@ stayed m s t = cond (is Pde s && eqb (edge s + m + 1) t) (Broken 28 (number s) m
 
 -- rule 28 at edge t of the recording p
 abbrev pub rule28 : Chip → Past → ℕ → Break
-rule28 C p t = stayed (C .stay) (turned (upTo (t - 1) p)) t
+rule28 C p t = stayed (C .nine) (turned (upTo (t - 1) p)) t
+
+-- ── Rule 31 ─────────────────────────────────────────────────────────────────────────────────
+
+-- Q-2: "the distance between neighbouring REFs .. counted here on the awake clock from edge 0 or the last REF": at an edge t after the
+-- latest record. Of no REF the latest is the empty past, whose awake clock is 0
+unfoldable pub sinceRef : Past → ℕ → ℕ
+sinceRef p t = awakeAt p t - awakeTo (latest (is Ref) p)
+
+-- "broken one edge past nine times tREFI's clocks; its record is none, its partner the last REF or none, needed the limit, found one more":
+-- at t, of the records p up to one edge before
+abbrev pub parted : (nine : ℕ) (p : Past) → ℕ → Break
+parted m p t = cond (ltb m (sinceRef p t)) (Broken 31 (number (latest (is Ref) p)) m (m + 1)) Fine
+
+-- rule 31 at edge t of the recording p: a REF at t itself comes too late
+abbrev pub rule31 : Chip → Past → ℕ → Break
+rule31 C p t = parted (C .nine) (upTo (t - 1) p) t

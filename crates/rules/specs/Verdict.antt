@@ -18,7 +18,7 @@ use Rattle.rules.specs.Past.{Past, edge, number, upTo}
 use Rattle.rules.specs.Registers.{Register, mr}
 use Rattle.rules.specs.Banks.{status}
 use Rattle.rules.specs.Rules.{checks, changeChecks, exitChecks}
-use Rattle.rules.specs.Deadlines.{rule24, rule25, rule28, owedAt}
+use Rattle.rules.specs.Deadlines.{rule24, rule25, rule28, rule31, owedAt}
 
 -- ── An edge ─────────────────────────────────────────────────────────────────────────────────
 
@@ -47,7 +47,7 @@ abbrev pub recordSays : (f : Record → Past → Break) → Past → ℕ → Out
 recordSays f [] t = clean
 recordSays f (r ∷ p) t = cond (eqb (edge (r ∷ p)) t) (told t (number (r ∷ p)) (f r p)) (recordSays f p t)
 
--- what a rule says of edge t; "24 and 25: record none", and 28
+-- what a rule says of edge t; "24 and 25: record none", and 28 and 31
 abbrev pub checkSays : Check → Past → ℕ → Outcome
 checkSays (ofRecord f) p t = recordSays f p t
 checkSays (deadline f) p t = told t 0 (f p t)
@@ -66,7 +66,7 @@ ofRecords (f ∷ fs) cs = ofRecord f ∷ ofRecords fs cs
 abbrev pub edgeChecks : Chip → List Check
 edgeChecks C =
     ofRecords (checks C)
-    (deadline (rule24 C) ∷ deadline (rule25 C) ∷ ofRecords (changeChecks C) (deadline (rule28 C) ∷ ofRecords (exitChecks C) []))
+    (deadline (rule24 C) ∷ deadline (rule25 C) ∷ ofRecords (changeChecks C) (deadline (rule28 C) ∷ ofRecords (exitChecks C) (deadline (rule31 C) ∷ [])))
 
 -- the lowest rule broken at edge t
 unfoldable pub brokenAt : Chip → Past → ℕ → Outcome

@@ -27,6 +27,7 @@ small h l =
       twr = omega (arith, b .wr);
       most = b .most;
       trefi = omega (arith, b .refi);
+      nine = omega (arith, b .nine);
       some = l;
     }
 
@@ -43,6 +44,7 @@ small-tested C h =
     let g = both _ _ (f .1) in
     let i = both _ _ (g .1) in
     let j = both _ _ (i .1) in
+    let k = both _ _ (j .1) in
     record {
       trcd = leb-true _ _ (a .0);
       trp = leb-true _ _ (b .0);
@@ -53,7 +55,8 @@ small-tested C h =
       twr = leb-true _ _ (g .0);
       most = leb-true _ _ (i .0);
       trefi = leb-true _ _ (j .0);
-      some = leb-true _ _ (j .1);
+      nine = leb-true _ _ (k .0);
+      some = leb-true _ _ (k .1);
     }
 
 pub small-test : (C : Chip) → Small C → isSmall C ≡ true
@@ -68,5 +71,6 @@ small-test C s = rw (
   le-leb (C .twr) 70000000 (s .twr),
   le-leb (C .most) 70000000 (s .most),
   le-leb (C .trefi) 70000000 (s .trefi),
+  le-leb (C .nine) 80000000 (s .nine),
   le-leb 1 (C .trefi) (s .some),
 )

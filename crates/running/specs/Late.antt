@@ -27,7 +27,7 @@ why x = Broken (x .rule) (x .partner) (x .needed) (x .found)
 unfoldable pub sooner : Late → Late → Late
 sooner x y = cond (leb (x .at) (y .at)) x y
 
--- rules 24 and 28: "needed its limit, found one more"
+-- rules 24, 28 and 31: "needed its limit, found one more"
 abbrev pub lateBy : (rule at partner most : ℕ) → Late
 lateBy k at partner most = record { at = at; rule = k; partner = partner; needed = most; found = most + 1 }
 
@@ -44,3 +44,7 @@ late25 trefi d partner edge hi =
       needed = 8;
       found = 9;
     }
+
+-- the edge at which the last REF is too far back, gap awake clocks of which were over at the edge; hi where the part is asleep
+abbrev pub late31 : (nine : ℕ) → Debt → (partner edge hi : ℕ) → Late
+late31 nine d partner edge hi = lateBy 31 (cond (d .sleeps) hi (edge + (nine + 1 - d .gap))) partner nine

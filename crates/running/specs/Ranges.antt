@@ -27,6 +27,7 @@ pub record Small (C : Chip) : Type 0 where
   pub twr : C .twr ≤ 70000000
   pub most : C .most ≤ 70000000
   pub trefi : C .trefi ≤ 70000000
+  pub nine : C .nine ≤ 80000000
   pub some : 1 ≤ C .trefi
 
 -- the same, as a test
@@ -34,7 +35,8 @@ unfoldable pub isSmall : Chip → Bool
 isSmall C =
     leb (C .trcd) 70000000
     && (leb (C .trp) 70000000 && (leb (C .tras) 70000000 && (leb (C .tcke) 70000000 && (leb (C .trtp) 70000000
-    && (leb (C .twtr) 70000000 && (leb (C .twr) 70000000 && (leb (C .most) 70000000 && (leb (C .trefi) 70000000 && leb 1 (C .trefi)))))))))
+    && (leb (C .twtr) 70000000 && (leb (C .twr) 70000000 && (leb (C .most) 70000000 && (leb (C .trefi) 70000000
+    && (leb (C .nine) 80000000 && leb 1 (C .trefi))))))))))
 
 abbrev pub counted : (count edge : ℕ) → Bool
 counted count edge = cond (ltb limit count) false (leb edge (count * 16777216))

@@ -58,11 +58,12 @@ pub struct Rests {
     pub slow: Mark,
 }
 
-// Refresh debt: asleep or not, the awake clock's place within an interval, debt + 8.
+// Refresh debt: asleep or not, the awake clock's place within an interval, debt + 8, the awake clocks since the last REF or edge 0.
 pub struct Debt {
     pub sleeps: bool,
     pub phase: u64,
     pub owed: u64,
+    pub gap: u64,
 }
 
 // What all banks share. now: the edge of the latest record that the state speaks of.

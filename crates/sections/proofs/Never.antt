@@ -80,7 +80,7 @@ open-in-range bytes z =
     ∙ in-range (startOf h) (taken-sound bytes h (w .1) .refi-least) (record {
       edge = omega arith;
       count = omega arith;
-      debt = omega (arith, bounds h .refi);
+      debt = (omega (arith, bounds h .refi), omega (arith, bounds h .nine));
       turn = omega arith;
       broke = omega arith;
       turned = omega arith;

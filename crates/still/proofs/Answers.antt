@@ -14,8 +14,8 @@ use Rattle.edges.specs.Step.{soFar}
 use Rattle.edges.specs.Ends.{freshRank}
 use Rattle.still.specs.Contracts.{Fresh, InRange, IsSmall, NoEnd, RegistersOf, SoFar}
 
-pub fresh-unique : (level : Bool) (due : ℕ) → Unique (Fresh level due)
-fresh-unique level due = one-answer (freshRank level due)
+pub fresh-unique : (level : Bool) (due gap : ℕ) → Unique (Fresh level due gap)
+fresh-unique level due gap = one-answer (freshRank level due gap)
 
 pub in-range-unique : (n : Rank) → Unique (InRange n)
 in-range-unique n = one-answer (rankInRange n)

@@ -19,8 +19,8 @@ use Rattle.edges.specs.Step.{soFar}
 use Rattle.edges.specs.Ends.{freshRank}
 
 -- `fresh`
-abbrev pub Fresh : (level : Bool) (due : ℕ) (r : Rank) → Type 0
-Fresh level due r = r ≡ freshRank level due
+abbrev pub Fresh : (level : Bool) (due gap : ℕ) (r : Rank) → Type 0
+Fresh level due gap r = r ≡ freshRank level due gap
 
 -- `in_range`
 abbrev pub InRange : (s : Rank) (r : Bool) → Type 0

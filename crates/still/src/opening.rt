@@ -10,8 +10,8 @@ ghost use mathlib.Core.Path.{_≡_};
 ghost use Rattle.edges.specs.Ends as ends;
 ghost use Rattle.still.specs.Contracts.{Fresh};
 
-pub fn fresh(level: bool, due: u64) -> Rank
-    ensures { λ r. ⌜ Fresh level due r ⌝ }
+pub fn fresh(level: bool, due: u64, gap: u64) -> Rank
+    ensures { λ r. ⌜ Fresh level due gap r ⌝ }
 {
     Rank {
         edge: 0,
@@ -21,6 +21,7 @@ pub fn fresh(level: bool, due: u64) -> Rank
         debt: Debt {
             sleeps: false,
             due: due,
+            gap: gap,
         },
         banks: fresh_banks(),
         waits: fresh_waits(),

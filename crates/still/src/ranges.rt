@@ -33,7 +33,8 @@ pub fn is_small(chip: Chip) -> bool
                         & ((chip.twtr <= 70000000)
                             & ((chip.twr <= 70000000)
                                 & ((chip.most <= 70000000)
-                                    & ((chip.trefi <= 70000000) & (1 <= chip.trefi)))))))))
+                                    & ((chip.trefi <= 70000000)
+                                        & ((chip.nine <= 80000000) & (1 <= chip.trefi))))))))))
 }
 
 // The product is worked out only where the count is within the limit.
@@ -51,9 +52,9 @@ fn debt_ok(edge: u64, debt: Debt) -> bool
     ensures { λ r. ⌜ r ≡ ranges.debtOk edge debt ⌝ }
 {
     if debt.sleeps {
-        return near(0, debt.due);
+        return near(0, debt.due) & near(0, debt.gap);
     }
-    near(edge, debt.due)
+    near(edge, debt.due) & near(edge, debt.gap)
 }
 
 // The difference is worked out only where there is one.

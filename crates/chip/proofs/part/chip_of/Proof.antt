@@ -123,11 +123,11 @@ txpdll-requires c κs = search needs
 plain-requires-19 : tie.Need-plain-requires-19
 plain-requires-19 c κs = rw (c .txpdll .ensures) (omega (arith, bounds (c .before .before .before .before .before .before .before .before .before .before .before .before .before .before .before .before .before .before .before .before .before .before .before .before .before .before .before .before .before .before .before .before .before .before .before .before .before .args .h) .xpdll))
 
-mostdown-requires : tie.Need-mostdown-requires
-mostdown-requires c κs = search needs
+ninerefi-requires : tie.Need-ninerefi-requires
+ninerefi-requires c κs = search needs
 
 plain-requires-20 : tie.Need-plain-requires-20
-plain-requires-20 c κs = rw (c .mostdown .ensures) (omega (arith, bounds (c .before .before .before .before .before .before .before .before .before .before .before .before .before .before .before .before .before .before .before .before .before .before .before .before .before .before .before .before .before .before .before .before .before .before .before .before .before .before .before .args .h) .down))
+plain-requires-20 c κs = rw (c .ninerefi .ensures) (omega (arith, bounds (c .before .before .before .before .before .before .before .before .before .before .before .before .before .before .before .before .before .before .before .before .before .before .before .before .before .before .before .before .before .before .before .before .before .before .before .before .before .before .before .args .h) .nine))
 
 returns : tie.Need-returns
 unfolding chipOf
@@ -152,8 +152,8 @@ returns c = λ i. record {
   trefi = (c .before .before .before .before .before .before .plain17 .ensures ∙ ap (λ (x : Clocks). x .clocks) (c .before .before .before .before .before .before .before .trefi .ensures)) i;
   txp = (c .before .before .before .before .plain18 .ensures ∙ ap (λ (x : Clocks). x .clocks) (c .before .before .before .before .before .txp .ensures)) i;
   txpdll = (c .before .before .plain19 .ensures ∙ ap (λ (x : Clocks). x .clocks) (c .before .before .before .txpdll .ensures)) i;
-  stay = (c .plain20 .ensures ∙ ap (λ (x : Clocks). x .clocks) (c .before .mostdown .ensures)) i;
+  nine = (c .plain20 .ensures ∙ ap (λ (x : Clocks). x .clocks) (c .before .ninerefi .ensures)) i;
 }
 
 pub chip-of-spec : {M : Type 1} → statement M
-chip-of-spec = tie.close (tie.spec trcd-requires plain-requires trp-requires plain-requires-2 trc-requires plain-requires-3 tras-requires plain-requires-4 trrd-requires plain-requires-5 tfaw-requires plain-requires-6 tcke-requires plain-requires-7 trtp-requires plain-requires-8 twtr-requires plain-requires-9 twr-requires plain-requires-10 tmod-requires plain-requires-11 trfc-requires plain-requires-12 txs-requires plain-requires-13 zqlong-requires plain-requires-14 zqshort-requires plain-requires-15 mostras-requires plain-requires-16 trefi-requires plain-requires-17 txp-requires plain-requires-18 txpdll-requires plain-requires-19 mostdown-requires plain-requires-20 returns)
+chip-of-spec = tie.close (tie.spec trcd-requires plain-requires trp-requires plain-requires-2 trc-requires plain-requires-3 tras-requires plain-requires-4 trrd-requires plain-requires-5 tfaw-requires plain-requires-6 tcke-requires plain-requires-7 trtp-requires plain-requires-8 twtr-requires plain-requires-9 twr-requires plain-requires-10 tmod-requires plain-requires-11 trfc-requires plain-requires-12 txs-requires plain-requires-13 zqlong-requires plain-requires-14 zqshort-requires plain-requires-15 mostras-requires plain-requires-16 trefi-requires plain-requires-17 txp-requires plain-requires-18 txpdll-requires plain-requires-19 ninerefi-requires plain-requires-20 returns)

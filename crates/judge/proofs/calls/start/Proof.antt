@@ -1,6 +1,6 @@
 -- The header, and a rank with no record.
 -- Assumes nothing.
-use Prim.Native.Nat.{_*_}
+use Prim.Native.Nat.{_+_}
 use native.Mathlib.Omega.{arith}
 use mathlib.Core.Bool.{true}
 use mathlib.Core.Path.{ap, _∙_}
@@ -13,11 +13,11 @@ use borrow.Author.Needs.{needs}
 use Rattle.judge.proofs.calls.start.Statement.{statement}
 use Rattle.judge.proofs.calls.start.Tie as tie
 
-trefi-requires : tie.Need-trefi-requires
-trefi-requires c κs = search needs
+ninerefi-requires : tie.Need-ninerefi-requires
+ninerefi-requires c κs = search needs
 
-mul-fresh : tie.Need-mul-fresh
-mul-fresh c = omega (arith, ap (λ (k : Clocks). k .clocks) (c .trefi .ensures), bounds (c .before .args .h) .refi)
+add-fresh : tie.Need-add-fresh
+add-fresh c = omega (arith, ap (λ (k : Clocks). k .clocks) (c .ninerefi .ensures), bounds (c .before .args .h) .nine)
 
 fresh-requires : tie.Need-fresh-requires
 fresh-requires c κs = search needs
@@ -30,7 +30,7 @@ unfolding chipOf
 returns c =
     c .holding .ensures
     ∙ ap (holding (c .before .before .before .args .h))
-    (c .before .fresh .ensures ∙ ap (λ (k : Clocks). freshRank true (9 * k .clocks)) (c .before .before .trefi .ensures))
+    (c .before .fresh .ensures ∙ ap (λ (k : Clocks). freshRank true (k .clocks) (k .clocks + 1)) (c .before .before .ninerefi .ensures))
 
 pub start-spec : {M : Type 1} → statement M
-start-spec = tie.close (tie.spec trefi-requires mul-fresh fresh-requires holding-requires returns)
+start-spec = tie.close (tie.spec ninerefi-requires add-fresh fresh-requires holding-requires returns)

@@ -16,7 +16,7 @@ from-edge true e = omega arith
 from-edge false e = omega arith
 
 near-due : (s : Rank) → Ranged s → s .debt .due ≤ farEdge
-near-due s h = omega (arith, h .debt, h .edge, h .count, from-edge (s .debt .sleeps) (s .edge))
+near-due s h = omega (arith, h .debt .0, h .edge, h .count, from-edge (s .debt .sleeps) (s .edge))
 
 verdict-of-requires : tie.Need-verdict-of-requires
 verdict-of-requires c κs = search needs

@@ -35,8 +35,10 @@ due-near : (sleeps : Bool) (due e : ℕ) → due - cond sleeps 0 e ≤ farthest 
 due-near true due e h n = omega (arith, h, n)
 due-near false due e h n = omega (arith, h, n)
 
-debt-near : (s : Rank) → Ranged s → s .debt .due ≤ farEdge
-debt-near s h = due-near (s .debt .sleeps) (s .debt .due) (s .edge) (h .debt) (omega (arith, h .edge, h .count))
+debt-near : (s : Rank) → Ranged s → (s .debt .due ≤ farEdge) × (s .debt .gap ≤ farEdge)
+debt-near s h =
+    let e : s .edge ≤ lastEdge = omega (arith, h .edge, h .count) in
+    (due-near (s .debt .sleeps) (s .debt .due) (s .edge) (h .debt .0) e, due-near (s .debt .sleeps) (s .debt .gap) (s .edge) (h .debt .1) e)
 
 moved-is :
     (C : Chip) (s : Rank) (r : Record) {c : Command} {g : Regs} {start four : ℕ} {slow : Bool} {D : Debt} {B : Banks} {W : Waits} {A : Acts} {Y : Device}

@@ -39,20 +39,29 @@ add-next28 c = search needs
 next28-requires : tie.Need-next28-requires
 next28-requires c κs = search needs
 
+array-read-next31 : tie.Need-array-read-next31
+array-read-next31 c = search needs
+
+add-next31 : tie.Need-add-next31
+add-next31 c = let p = c .before .before .before .before .before .before .before .before .pre .1 in omega (arith, p .0 .edge, p .0 .count, p .1 .0)
+
+next31-requires : tie.Need-next31-requires
+next31-requires c κs = search needs
+
 broken-in-requires : tie.Need-broken-in-requires
-broken-in-requires c κs = (c .before .before .before .before .before .before .before .before .pre .1 .0 .turn, c .before .before .before .command-of .ensures)
+broken-in-requires c κs = (c .before .before .before .before .before .before .before .before .before .pre .1 .0 .turn, c .before .before .before .before .command-of .ensures)
 
 owing-requires : tie.Need-owing-requires
 owing-requires c κs = search needs
 
 changed-in-requires : tie.Need-changed-in-requires
-changed-in-requires c κs = (c .before .before .before .before .before .before .before .before .before .before .pre .1 .0 .turn, c .before .before .before .before .before .command-of .ensures)
+changed-in-requires c κs = (c .before .before .before .before .before .before .before .before .before .before .before .pre .1 .0 .turn, c .before .before .before .before .before .before .command-of .ensures)
 
 left-in-requires : tie.Need-left-in-requires
-left-in-requires c κs = (c .before .before .before .before .before .before .before .before .before .before .before .pre .1 .0 .turn, c .before .before .before .before .before .before .command-of .ensures)
+left-in-requires c κs = (c .before .before .before .before .before .before .before .before .before .before .before .before .pre .1 .0 .turn, c .before .before .before .before .before .before .before .command-of .ensures)
 
 add-says-by : tie.Need-add-says-by
-add-says-by c = omega (arith, c .before .before .before .before .before .before .before .before .before .before .before .before .before .pre .1 .1 .1)
+add-says-by c = omega (arith, c .before .before .before .before .before .before .before .before .before .before .before .before .before .before .pre .1 .1 .1)
 
 says-by-requires : tie.Need-says-by-requires
 says-by-requires c κs = search needs
@@ -67,10 +76,11 @@ returns c =
       c .before .before .before .changed-in .ensures,
       c .before .before .before .before .owing .ensures,
       c .before .before .before .before .before .broken-in .ensures,
-      d .next28 .ensures,
-      d .before .next25 .ensures,
-      d .before .before .next24 .ensures,
-      d .before .before .before .command-of .ensures,
+      d .next31 .ensures,
+      d .before .next28 .ensures,
+      d .before .before .next25 .ensures,
+      d .before .before .before .next24 .ensures,
+      d .before .before .before .before .command-of .ensures,
     )
 
 pub said-spec : {M : Type 1} → statement M
@@ -88,6 +98,9 @@ said-spec =
     array-read-next28-2
     add-next28
     next28-requires
+    array-read-next31
+    add-next31
+    next31-requires
     broken-in-requires
     owing-requires
     changed-in-requires

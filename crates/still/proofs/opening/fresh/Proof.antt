@@ -29,7 +29,7 @@ returns c =
       count = 0;
       first = c .before .before .before .before .none .ensures i;
       level = c .before .before .before .before .before .args .level;
-      debt = record { sleeps = false; due = c .before .before .before .before .before .args .due };
+      debt = record { sleeps = false; due = c .before .before .before .before .before .args .due; gap = c .before .before .before .before .before .args .gap };
       banks = c .before .before .before .fresh-banks .ensures i;
       waits = c .before .before .fresh-waits .ensures i;
       acts = c .before .fresh-acts .ensures i;

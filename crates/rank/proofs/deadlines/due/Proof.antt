@@ -3,8 +3,8 @@
 use borrow.Author.Tests.{lt-ltb, le-ltb}
 use Rattle.running.specs.Next.{due}
 use borrow.Author.Needs.{needs}
-use Rattle.rank.proofs.said.due.Statement.{statement}
-use Rattle.rank.proofs.said.due.Tie as tie
+use Rattle.rank.proofs.deadlines.due.Statement.{statement}
+use Rattle.rank.proofs.deadlines.due.Tie as tie
 
 cast-last : tie.Need-cast-last
 cast-last c = search needs

@@ -10,8 +10,8 @@ use Rattle.edges.specs.Views.{keptOf}
 use Rattle.edges.specs.Says.{duesOf}
 use Rattle.rank.proofs.Filling.{filled, fill-start, fill-turn, fill-end}
 use borrow.Author.Needs.{needs}
-use Rattle.rank.proofs.said.dues_of.Statement.{statement}
-use Rattle.rank.proofs.said.dues_of.Tie as tie
+use Rattle.rank.proofs.deadlines.dues_of.Statement.{statement}
+use Rattle.rank.proofs.deadlines.dues_of.Tie as tie
 
 abbrev dueAt : Chip → Banks → (b : ℕ) → ℕ
 dueAt C B b = due C (keptOf C B b)

@@ -1,8 +1,8 @@
 -- Asleep or not.
 -- Assumes nothing.
 use borrow.Author.Needs.{needs}
-use Rattle.rank.proofs.said.next25.Statement.{statement}
-use Rattle.rank.proofs.said.next25.Tie as tie
+use Rattle.rank.proofs.deadlines.next25.Statement.{statement}
+use Rattle.rank.proofs.deadlines.next25.Tie as tie
 
 of-two-requires : tie.Need-of-two-requires
 of-two-requires c κs = search needs

@@ -5,8 +5,8 @@ use native.Mathlib.Omega.{arith}
 use Rattle.running.proofs.Soonest.{soonest-bank}
 use Rattle.edges.specs.Says.{next24}
 use borrow.Author.Needs.{needs}
-use Rattle.rank.proofs.said.next24.Statement.{statement}
-use Rattle.rank.proofs.said.next24.Tie as tie
+use Rattle.rank.proofs.deadlines.next24.Statement.{statement}
+use Rattle.rank.proofs.deadlines.next24.Tie as tie
 
 dues-of-requires : tie.Need-dues-of-requires
 dues-of-requires c κs = search needs

@@ -1,8 +1,8 @@
 -- The edge at which the stay is too long.
 -- Assumes nothing.
 use borrow.Author.Needs.{needs}
-use Rattle.rank.proofs.said.next28.Statement.{statement}
-use Rattle.rank.proofs.said.next28.Tie as tie
+use Rattle.rank.proofs.deadlines.next28.Statement.{statement}
+use Rattle.rank.proofs.deadlines.next28.Tie as tie
 
 stay-until-requires : tie.Need-stay-until-requires
 stay-until-requires c κs = search needs

@@ -1,8 +1,8 @@
 -- In power-down or not.
 -- Assumes nothing.
 use borrow.Author.Needs.{needs}
-use Rattle.rank.proofs.said.stay_until.Statement.{statement}
-use Rattle.rank.proofs.said.stay_until.Tie as tie
+use Rattle.rank.proofs.deadlines.stay_until.Statement.{statement}
+use Rattle.rank.proofs.deadlines.stay_until.Tie as tie
 
 returns : tie.Need-returns
 returns c = simp (c .if1 .taken)
