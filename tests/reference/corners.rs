@@ -163,7 +163,7 @@ pub fn all_idle(controller: &mut Controller) {
 }
 
 /// With all banks idle, REFs down to a debt of -8.
-pub fn pull_in(controller: &mut Controller) {
+fn pull_in(controller: &mut Controller) {
     all_idle(controller);
     for _ in 0..20 {
         if controller.debt() > -8 {
