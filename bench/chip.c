@@ -50,7 +50,7 @@ void count_clocks(struct counts *t, const struct header *h)
     t->xs = up(period, refresh + 10000, 5);
     t->zq_long = up(period, 320000, 256);
     t->zq_short = up(period, 80000, 64);
-    t->most_ras = 70000000 / period;
+    t->most_ras = (h->hot ? 35100000 : 70000000) / period;
     t->refi = (h->hot ? 3900000 : 7800000) / period;
     t->xp = up(period, bin == 0 ? 7500 : 6000, 3);
     t->xpdll = up(period, 24000, 10);

@@ -28,16 +28,21 @@ struct deadline {
     int32_t limit;
 };
 
+/* Asleep no refresh falls due. Nine intervals are as many clocks as the greatest stay. */
+static struct deadline gap_deadline(const struct judge *j)
+{
+    struct deadline gap = {j->mode == ASLEEP ? NEVER : j->gap_due, 31, j->ref.number, j->t.stay};
+    return gap;
+}
+
 /* Of several at one edge that of the lowest rule. */
 static struct deadline soonest_deadline(const struct judge *j)
 {
-    struct deadline soonest = {NEVER, 28, 0, 0}, debt = {j->debt_due, 25, j->ref.number, MOST_DEBT - 1};
+    struct deadline soonest = gap_deadline(j), debt = {j->debt_due, 25, j->ref.number, MOST_DEBT - 1};
+    struct deadline stay = {j->entry.at + j->t.stay + 1, 28, j->entry.number, j->t.stay};
     int i;
-    if (j->mode == DOWN) {
-        soonest.at = j->entry.at + j->t.stay + 1;
-        soonest.partner = j->entry.number;
-        soonest.limit = j->t.stay;
-    }
+    if (j->mode == DOWN && stay.at <= soonest.at)
+        soonest = stay;
     if (j->mode != ASLEEP && debt.at <= soonest.at)
         soonest = debt;
     for (i = 0; i < BANKS; i++) {
@@ -79,12 +84,14 @@ static int __attribute__((cold)) rules_break(struct judge *j, struct record r)
     return breaks_a_rule(j, r.command, r.ba, r.a);
 }
 
-/* A deadline at the record's own edge comes after the rules below it, and a REF is still in time for rule 25. */
+/* A deadline at the record's own edge comes after the rules below it, and a REF is still in time for rule 25, not for 31. */
 static int __attribute__((cold)) deadline_breaks(struct judge *j, struct record r)
 {
     struct deadline due = soonest_deadline(j);
     j->soonest = sooner(due.at, r.edge + j->t.most_ras + 1);
-    if (due.at > r.edge || (due.at == r.edge && due.rule == 25 && r.command == REF))
+    if (due.at == r.edge && due.rule == 25 && r.command == REF)
+        due = gap_deadline(j);
+    if (due.at > r.edge)
         return 0;
     if (due.at < r.edge || !rules_break(j, r) || j->first.rule > due.rule)
         say_late(j, due);
@@ -195,6 +202,7 @@ static inline int refresh(struct judge *j, struct record r)
     hold_all(j, r.edge + j->t.rfc);
     if (j->debt_due - r.edge <= (MOST_DEBT - LEAST_DEBT - 1) * (int64_t)j->t.refi)
         j->debt_due += j->t.refi;
+    j->gap_due = r.edge + j->t.stay + 1;
     return 0;
 }
 
@@ -238,6 +246,7 @@ static inline int fall_asleep(struct judge *j, struct record r)
     j->slept = mark(r, j->t.cke + 1);
     j->changed = mark(r, j->t.cke);
     j->debt_due -= r.edge;
+    j->gap_due -= r.edge;
     j->mode = ASLEEP;
     return 0;
 }
@@ -254,7 +263,8 @@ static inline int wake(struct judge *j, struct record r)
     if (j->column_from[READ] != NEVER)
         j->column_from[READ] = r.edge + DLL_LOCK;
     j->debt_due += r.edge;
-    j->soonest = sooner(j->soonest, j->debt_due);
+    j->gap_due += r.edge;
+    j->soonest = sooner(j->soonest, sooner(j->debt_due, j->gap_due));
     j->mode = AWAKE;
     return 0;
 }
@@ -384,6 +394,7 @@ int judge_open(struct judge *j, const uint8_t *header, size_t length)
     j->act_from = j->column_from[READ] = NEVER;
     j->mode = AWAKE;
     j->debt_due = MOST_DEBT * (int64_t)j->t.refi;
+    j->gap_due = j->t.stay + 1;
     j->soonest = sooner(j->debt_due, j->t.most_ras + 1);
     return 0;
 }

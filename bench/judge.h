@@ -1,4 +1,4 @@
-/* A judge of DDR3 command recordings in plain C, to be measured beside the proved one: the same 30 rules, the same
+/* A judge of DDR3 command recordings in plain C, to be measured beside the proved one: the same 31 rules, the same
  * refusals, a running state that keeps no record. Written from the rules paper; nothing in it is proved. */
 #ifndef BENCH_JUDGE_H
 #define BENCH_JUDGE_H
@@ -88,7 +88,7 @@ struct judge {
     struct mark changed, entry, left, slow; /* CKE's latest change, power-down's entry and exit, the latest that rule 30 counts from */
     struct mark auto_write; /* the latest WR with auto precharge: rule 26 may ask more of it than of a later WR */
     int closed; /* no bank was open at the entry */
-    int64_t debt_due; /* the edge at which rule 25 breaks; while asleep what is left to it */
+    int64_t debt_due, gap_due; /* the edges at which rules 25 and 31 break; while asleep what is left to them */
     unsigned written; /* a bit for each register, and one for a DLL reset */
     uint16_t code[4];
     int refresh_owed;

@@ -44,11 +44,11 @@ extern "C" {
  * Writes 20 bytes to the start of out, numbers most significant byte first:
  *   outcome 1 byte (0 clean, 1 broken), rule 1, record 3, partner 3, edge 6, needed 3, found 3
  * Clean: record is the number of records, edge is end, the rest 0. Broken: the first broken edge and
- * the lowest of the 30 rules broken there; record is the number of the record that breaks it (from 1),
- * and 0 for rules 24, 25 and 28, which are deadlines, also where a record stands at that edge; partner is
- * that of the earlier record that proves it (0: none); needed and found are clocks, but for rule 3 on an
- * MRS: there needed is 0 and found the refused bit, as manilaply_register tells it. Bytes of out after
- * these keep their values.
+ * the lowest of the 31 rules broken there; record is the number of the record that breaks it (from 1),
+ * and 0 for rules 24, 25, 28 and 31, which are deadlines, also where a record stands at that edge; partner is
+ * that of the earlier record that proves it (0: none); needed and found are clocks, of rule 31 those of the
+ * awake clock, which stands still in self-refresh, but for rule 3 on an MRS: there needed is 0 and found
+ * the refused bit, as manilaply_register tells it. Bytes of out after these keep their values.
  *
  * Answers 0, or the first of
  *    9   out_len is below 20

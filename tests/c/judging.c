@@ -1,5 +1,5 @@
 /* Judging a whole recording from C, on good and bad input: each answer and each byte of the lent buffers is held to the
- * tables below, which are written from 01's examples and its list of refusals, and from Q-1's rules. */
+ * tables below, which are written from 01's examples and its list of refusals, and from Q-1's and Q-2's rules. */
 #include "checks.h"
 
 enum { VERDICT = 20, SIX = 6, LIMIT = 1048576 };
@@ -23,8 +23,17 @@ static const uint8_t EXIT[] = {CLOSED, 0, 0, 9, 0x38, 0, 0, 0, 0, 3, 0xB8, 0, 0}
 static const uint8_t OPENS[] = {NAP, 0, 0, 3, 0x9B, 0, 0};
 static const uint8_t READS[] = {NAP, 0, 0, 4, 0x9B, 0, 0, 0, 0, 9, 0xAB, 0, 0};
 static const uint8_t READS_LATER[] = {NAP, 0, 0, 4, 0x9B, 0, 0, 0, 0, 12, 0xAB, 0, 0};
-/* A REF, so that no refresh is owed too soon, and an entry at edge 2. */
-static const uint8_t STAY[] = {HEADER, 0, 0, 1, 0x88, 0, 0, 0, 0, 1, 0x38, 0, 0};
+/* A REF at edge 1, and then no other: awake, in power-down from edge 2, asleep for 10,000 edges, and on a hot part. */
+#define REF_AT_1 0, 0, 1, 0x88, 0, 0
+static const uint8_t GAP[] = {HEADER, REF_AT_1};
+static const uint8_t DOWN[] = {HEADER, REF_AT_1, 0, 0, 1, 0x38, 0, 0};
+static const uint8_t SLEPT[] = {HEADER, REF_AT_1, 0, 0, 0x4A, 0x08, 0, 0, 0, 0x27, 0x10, 0xB8, 0, 0};
+static const uint8_t HOT[] = {0x14, 0x85, 0xDC, 0, 0, 0, REF_AT_1};
+/* A REF one edge before an interval ends: at edge 52000 the debt is 9 and the gap too long. Another REF there, or before. */
+#define REF_AT_5199 0, 0x14, 0x4F, 0x88, 0, 0
+static const uint8_t TIE[] = {HEADER, REF_AT_5199};
+static const uint8_t TOO_LATE[] = {HEADER, REF_AT_5199, 0, 0xB6, 0xD1, 0x88, 0, 0};
+static const uint8_t IN_TIME[] = {HEADER, REF_AT_5199, 0, 0xB6, 0xD0, 0x88, 0, 0};
 
 static const uint64_t GREATEST_END = (uint64_t)1 << 44;
 
@@ -57,8 +66,17 @@ static const struct {
     {OPENS, sizeof OPENS, 546, 0, {1, 29, 10, 9, 546, 4, 3}},
     {READS, sizeof READS, 556, 0, {1, 30, 11, 9, 556, 16, 13}},
     {READS_LATER, sizeof READS_LATER, 559, 0, {0, 0, 11, 0, 559, 0, 0}},
-    {STAY, sizeof STAY, 46802, 0, {0, 0, 2, 0, 46802, 0, 0}},
-    {STAY, sizeof STAY, 46803, 0, {1, 28, 0, 2, 46803, 46800, 46801}},
+    {GAP, sizeof GAP, 46801, 0, {0, 0, 1, 0, 46801, 0, 0}},
+    {GAP, sizeof GAP, 46802, 0, {1, 31, 0, 1, 46802, 46800, 46801}},
+    {DOWN, sizeof DOWN, 46801, 0, {0, 0, 2, 0, 46801, 0, 0}},
+    {DOWN, sizeof DOWN, 46803, 0, {1, 31, 0, 1, 46802, 46800, 46801}},
+    {SLEPT, sizeof SLEPT, 56801, 0, {0, 0, 3, 0, 56801, 0, 0}},
+    {SLEPT, sizeof SLEPT, 56802, 0, {1, 31, 0, 1, 56802, 46800, 46801}},
+    {HOT, sizeof HOT, 23401, 0, {0, 0, 1, 0, 23401, 0, 0}},
+    {HOT, sizeof HOT, 23402, 0, {1, 31, 0, 1, 23402, 23400, 23401}},
+    {TIE, sizeof TIE, 52000, 0, {1, 25, 0, 1, 52000, 8, 9}},
+    {TOO_LATE, sizeof TOO_LATE, 52000, 0, {1, 31, 0, 1, 52000, 46800, 46801}},
+    {IN_TIME, sizeof IN_TIME, 51999, 0, {0, 0, 2, 0, 51999, 0, 0}},
     {P8, 5, 0, 1, {0}},
     {P8, 7, 0, 5, {0}},
     {P8, sizeof P8 - 1, 529, 5, {0}},

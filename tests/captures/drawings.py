@@ -8,7 +8,7 @@ import re
 import xml.etree.ElementTree as tree
 from pathlib import Path
 
-from common import P8, P9, RULES, check, run
+from common import BRIEF, P8, P9, RULES, check, run
 
 # REF, SRE, a record while CKE is low, SRX 60,000 edges later, REF, and 20,000 edges: three refreshes fall due, in the sleep none, two are given
 ASLEEP = bytes.fromhex('000020880000' + '000060080000' + '000010380000' + '00ea60b80000' + '000070880000' + '004e20f80000')
@@ -37,10 +37,23 @@ def of_breaks(folder):
                 place = f'r.rec:0x{found[what + "_byte"]:x}'
                 check(f'the picture of rule {rule} has not record {found[what]}', str(found[what]) in words and any(place in line for line in words))
         if rule not in (1, 2, 3, 23, 25):
-            told = f'found {found["found"]}, {"at most" if rule in (24, 28) else "needed"} {found["needed"]}'
+            told = f'found {found["found"]}, {"at most" if rule in (24, 31) else "needed"} {found["needed"]}'
             edge = found['edge'] - found['found'] + found['needed']
-            limit = f'limit: edge {edge}' if rule in (24, 28) else f'rule {rule} allows it from edge {edge}'
+            limit = f'limit: edge {edge}' if rule in (24, 31) else f'rule {rule} allows it from edge {edge}'
             check(f'the picture of rule {rule} has not: {told}, {limit}', told in words and limit in words)
+
+
+def of_a_sleep(folder):
+    """Rule 31 with edges asleep between: the arrow begins at the REF, and the limit is the edge before the break."""
+    for recording, line in BRIEF:
+        if 'asleep' in line:
+            slept = re.search(r'(\d+) edges between them are asleep', line)[1]
+            ran, words = picture(folder, bytes.fromhex(recording))
+            found = json.loads(run(folder, '--json', 'r.rec').stdout)
+            told = f'found {found["found"]}, at most {found["needed"]}; {slept} edges asleep do not count'
+            drawn = {str(found['partner_edge']), f'limit: edge {found["edge"] - 1}', told} <= set(words)
+            wrong = str(found['edge'] - found['found']) in words
+            check(f'the picture of rule 31 behind {slept} edges asleep: {ran} {words}', ran.returncode == 1 and drawn and not wrong)
 
 
 def of_others(folder):
@@ -102,4 +115,4 @@ def pages(folder):
         check(f'the page of {what} refers outside', not re.search(r'https?:|url\((?!#)|@import', content))
 
 
-TESTS = [of_breaks, of_others, of_names, pages]
+TESTS = [of_breaks, of_a_sleep, of_others, of_names, pages]

@@ -66,7 +66,7 @@ pub fn functions(seed: u64, count: u64, small: bool, words: &[&str]) -> Result<b
             let expected = call.answer();
             tally.add(&call, &expected);
             if let (Function::Judge, Ok(verdict)) = (function, &expected) {
-                features.add(&call.data, verdict);
+                features.add(&call.data, call.numbers[0] as i64, verdict);
             }
             if difference(&mut harness, &call, &expected)?.is_some() {
                 differences += 1;

@@ -2,10 +2,10 @@
 //! and the edge at which it issues a record when it makes no mistake.
 
 use crate::banks::{bank_at, covers, Bank};
-use crate::deadlines::{awake_at, debt_at};
+use crate::deadlines::{awake_at, debt_at, gap_deadline};
 use crate::header::Header;
 use crate::random::Random;
-use crate::recording::{asleep_after, cke_after, entry_of_stay, last_edge, Command, Command::*, Event, Record};
+use crate::recording::{asleep_after, cke_after, last_edge, Command, Command::*, Event, Record};
 use crate::rules::{banks_of_rule_5, fourth_act_back, latest_start, needed};
 
 /// What a controller likes to do.
@@ -136,17 +136,23 @@ impl Controller {
         Some(act.edge + self.header.greatest_t_ras() + 1)
     }
 
-    /// The edge at which 28 breaks when no exit comes.
-    fn stay_deadline(&self) -> Option<i64> {
-        Some(entry_of_stay(&self.past)?.edge + self.header.greatest_stay() + 1)
+    /// The edge at which 31 breaks when no REF comes, if the clock is awake.
+    pub fn gap_deadline(&self) -> Option<i64> {
+        (!asleep_after(&self.past)).then(|| gap_deadline(&self.header, &self.past, self.now()))
     }
 
-    /// The next deadline and its rule.
+    /// The next deadline and its rule. 28 is never the next: in power-down too no REF comes, and the last is older than the
+    /// entry.
     pub fn deadline(&self) -> Option<(i64, u8)> {
         let open = self.open_deadline().map(|edge| (edge, 24));
         let debt = self.debt_deadline().map(|edge| (edge, 25));
-        let stay = self.stay_deadline().map(|edge| (edge, 28));
-        open.into_iter().chain(debt).chain(stay).min()
+        let gap = self.gap_deadline().map(|edge| (edge, 31));
+        open.into_iter().chain(debt).chain(gap).min()
+    }
+
+    /// The last edge at which a REF is in time: for 25 the edge at which it would break, for 31 the one before.
+    fn last_refresh(&self) -> Option<i64> {
+        Some(self.debt_deadline()?.min(self.gap_deadline()? - 1))
     }
 
     /// The first edge at or after this one at which the debt rises, when the clock stays awake.
@@ -177,8 +183,7 @@ impl Controller {
         let wanted = self.wanted_edge(least);
         let Some((deadline, rule)) = self.deadline() else { return wanted };
         let last_in_time = match (rule, Event::after(&self.past, record).command) {
-            (25, Ref) => deadline,
-            (28, Pdx) => deadline - 1,
+            (25 | 31, Ref) => self.last_refresh().unwrap_or(deadline),
             (24, Pre) if record.a >> 10 & 1 == 1 => deadline - 1,
             _ => return wanted.min(deadline - MARGIN).max(least),
         };

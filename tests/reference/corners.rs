@@ -1,7 +1,8 @@
 //! Corners that a controller does not come to by chance: each is set up on purpose, and then the rule is broken at it.
 
 use crate::controller::{pins_of, Controller};
-use crate::naps::{change_too_soon, command_too_soon, entry_too_soon, slow_exit, with_the_deadline};
+use crate::gaps::{even, keep_open, too_long_a_gap};
+use crate::naps::{change_too_soon, command_too_soon, entry_too_soon, ready_to_read, slow_exit, with_the_deadline};
 use crate::random::Random;
 use crate::recording::{cke_after, registers_after, Command::*, Record};
 use crate::registers::{allowed, bad_bit, NAMED, NO_REGISTER};
@@ -26,6 +27,7 @@ pub fn corner(controller: &mut Controller, rule: u8) -> Option<()> {
         27 => change_too_soon(controller),
         29 => command_too_soon(controller),
         30 => slow_exit(controller),
+        31 => too_long_a_gap(controller),
         _ => None,
     }
 }
@@ -98,7 +100,12 @@ fn asleep_again(controller: &mut Controller) -> Option<()> {
 
 /// An ACT so that its bank is late at the edge at which the ninth refresh is owed: 24 is lower than 25.
 fn both_deadlines(controller: &mut Controller) -> Option<()> {
-    pull_in(controller);
+    ready_to_read(controller, false)?;
+    even(controller)?;
+    let refresh = controller.record(Ref, 0, false);
+    let rising = controller.rising(controller.least_edge(&refresh));
+    let later = controller.random.between(0, 3);
+    controller.issue(refresh, rising + later);
     let (deadline, rule) = controller.deadline()?;
     let record = controller.record(Act, 0, false);
     let edge = deadline - controller.header.greatest_t_ras() - 1;
@@ -114,6 +121,7 @@ fn both_deadlines(controller: &mut Controller) -> Option<()> {
 
 /// A WR with auto precharge whose bank starts it at the very edge at which it is late, or at the last edge in time.
 fn start_at_the_deadline(controller: &mut Controller) -> Option<()> {
+    keep_open(controller)?;
     let (deadline, rule) = controller.deadline()?;
     let bank = controller.longest_open().filter(|_| rule == 24)?;
     let registers = registers_after(&controller.past);
@@ -130,12 +138,15 @@ fn start_at_the_deadline(controller: &mut Controller) -> Option<()> {
     Some(())
 }
 
-/// As many refreshes as can be pulled in, one more at the very edge at which the debt rises, and then none to the deadline.
+/// As many refreshes as can be pulled in, one more at the very edge at which the debt rises, one as late as rule 31 lets it
+/// come, and then none to the deadline.
 fn pulled_in_at_a_rising(controller: &mut Controller) -> Option<()> {
     pull_in(controller);
     let record = controller.record(Ref, 0, false);
     let rising = controller.rising(controller.least_edge(&record));
     controller.issue(record, rising);
+    let late = controller.gap_deadline()? - 1;
+    controller.issue(record, late);
     let (deadline, _) = controller.deadline()?;
     let nop = controller.record(Nop, 0, false);
     let around = controller.random.between(-1, 1);
@@ -152,7 +163,7 @@ pub fn all_idle(controller: &mut Controller) {
 }
 
 /// With all banks idle, REFs down to a debt of -8.
-pub fn pull_in(controller: &mut Controller) {
+fn pull_in(controller: &mut Controller) {
     all_idle(controller);
     for _ in 0..20 {
         if controller.debt() > -8 {

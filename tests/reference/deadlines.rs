@@ -1,4 +1,4 @@
-//! The deadlines, rules 24, 25 and 28, the awake clock and the refresh debt.
+//! The deadlines, rules 24, 25, 28 and 31, the awake clock and the refresh debt.
 
 use crate::banks::precharge_start;
 use crate::header::Header;
@@ -73,14 +73,39 @@ fn broken_by_stay(header: &Header, past: &[Event], edge: i64) -> Option<Break> {
     Some(Break { rule: 28, record: 0, partner: entry.number, edge, needed: limit, found: limit + 1 })
 }
 
+/// The edges that the awake clock has counted up to this edge since the last REF before it, or since edge 0; and that REF.
+/// A REF at the edge itself is not before it.
+pub fn since_ref(past: &[Event], edge: i64) -> (i64, Option<&Event>) {
+    let last_ref = past.iter().rfind(|event| event.command == Command::Ref && event.edge < edge);
+    let from = last_ref.map_or(0, |event| event.edge);
+    (awake_at(past, edge) - awake_at(past, from), last_ref)
+}
+
+/// 31 the distance between neighbouring REFs at most nine times tREFI's clocks, counted on the awake clock from edge 0 or
+/// the last REF; broken one edge past it. Partner: the last REF or none.
+fn broken_by_gap(header: &Header, past: &[Event], edge: i64) -> Option<Break> {
+    let limit = header.greatest_gap();
+    let (counted, last_ref) = since_ref(past, edge);
+    let partner = last_ref.map_or(0, |event| event.number);
+    (counted == limit + 1).then_some(Break { rule: 31, record: 0, partner, edge, needed: limit, found: limit + 1 })
+}
+
 /// How this deadline is broken at this edge, if it is; the past holds the records up to it.
 pub fn broken_by_deadline(header: &Header, past: &[Event], edge: i64, rule: u8) -> Option<Break> {
     match rule {
         24 => broken_by_open_bank(header, past, edge),
         25 => broken_by_debt(header, past, edge),
         28 => broken_by_stay(header, past, edge),
+        31 => broken_by_gap(header, past, edge),
         _ => None,
     }
+}
+
+/// The edge at which 31 breaks when behind the last record, at this edge, no REF comes and the clock is awake.
+pub fn gap_deadline(header: &Header, past: &[Event], last: i64) -> i64 {
+    let next = last + 1;
+    let (counted, _) = since_ref(past, next);
+    next + header.greatest_gap() + 1 - counted
 }
 
 /// The edges after the last record and up to the given one at which a deadline can become due.
@@ -94,6 +119,7 @@ pub fn edges_to_examine(header: &Header, past: &[Event], from: i64, until: i64) 
         let into_interval = awake_at(past, from) % header.t_refi();
         let most_risings = BROKEN_DEBT - LOWEST_DEBT;
         edges.extend((1..=most_risings).map(|rising| from - into_interval + rising * header.t_refi()));
+        edges.push(gap_deadline(header, past, from));
     }
     edges.retain(|edge| (from + 1..=until).contains(edge));
     edges.sort();

@@ -4,6 +4,7 @@ use crate::banks::precharge_start;
 use crate::controller::SPACINGS;
 use crate::deadlines::{awake_at, debt_at};
 use crate::header::Header;
+use crate::intervals;
 use crate::powerdown::{self, spacing_name};
 use crate::recording::{read_recording, read_records, Command::*, Event};
 use crate::registers::{all_bit_names, allowed, bit_name};
@@ -73,6 +74,7 @@ fn all() -> Vec<String> {
         names.push(format!("{row} broken by one edge"));
     }
     names.extend(powerdown::all());
+    names.extend(intervals::all());
     names
 }
 
@@ -196,8 +198,8 @@ fn break_of(verdict: &[u8]) -> Break {
 }
 
 impl Features {
-    /// A recording that is judged, and its verdict's 20 bytes.
-    pub fn add(&mut self, recording: &[u8], verdict: &[u8]) {
+    /// A recording that is judged, its end edge, and its verdict's 20 bytes.
+    pub fn add(&mut self, recording: &[u8], end: i64, verdict: &[u8]) {
         let Ok((header, section)) = read_recording(recording) else { return };
         if section.len() / 6 > MOST_RECORDS {
             return;
@@ -214,8 +216,11 @@ impl Features {
             past.push(event);
             names.extend(record_features(&header, &past));
             names.extend(powerdown::record_features(&header, &past));
+            names.extend(intervals::record_features(&header, &past));
             names.extend(met_to_the_edge(&header, &past));
         }
+        let closed = (past.len() == section.len() / 6).then_some(end);
+        names.extend(intervals::end_features(&header, &past, closed, broken.as_ref()));
         if let Some(broken) = &broken {
             names.extend(corner_features(&header, &past, broken));
             names.extend(powerdown::break_features(&header, &past, broken));

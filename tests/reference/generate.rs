@@ -7,6 +7,7 @@ use crate::random::Random;
 use crate::recording::GREATEST_END;
 use crate::settings::{header_bytes, header_for_rule, random_header};
 use crate::slips::slip;
+use crate::tally::NEVER_TOLD;
 
 /// ACT, RD, WR, PRE, REF, MRS, ZQ, SRE, NOP, PDE.
 const MIXED: [u64; 10] = [20, 20, 15, 12, 4, 3, 1, 1, 6, 3];
@@ -42,7 +43,7 @@ pub fn case(seed: u64, index: u64, small: bool) -> Case {
     }
     if index % LONG_EVERY == LONG_EVERY / 2 {
         let length = random.between(1010, 1300) as usize;
-        let rule = random.pick(&[0, 0, 4, 10, 14, 24]);
+        let rule = random.pick(&[0, 0, 4, 10, 14, 24, 31]);
         return aimed(&mut random, rule, length, length - 5);
     }
     match random.weighted(&[70, 14, 11, 5]) {
@@ -54,13 +55,15 @@ pub fn case(seed: u64, index: u64, small: bool) -> Case {
 }
 
 fn any_aimed(random: &mut Random) -> Case {
-    let mut weights = [2; 31];
+    let mut weights = [2; 32];
     weights[0] = 16;
+    weights[NEVER_TOLD as usize] = 0;
     for rarely_reached in [3, 4, 8, 10, 20] {
         weights[rarely_reached] = 4;
     }
-    weights[3] = 5;
+    weights[3] = 6;
     weights[19] = 8;
+    weights[31] = 6;
     let rule = random.weighted(&weights) as u8;
     let (least, greatest) = random.pick(&[(20, 50), (20, 50), (20, 50), (20, 50), (30, 100), (20, 200)]);
     let length = random.between(least, greatest);
@@ -91,7 +94,7 @@ fn temper_for(random: &mut Random, rule: u8) -> Temper {
         eager: if rule == 6 || rule == 8 { 97 } else { random.pick(&[30, 60, 80, 95]) },
         auto: if weights == CLOSING { 80 } else { random.pick(&[0, 10, 30, 60]) },
         debts: match rule {
-            24 | 28 => (0, random.between(-8, -1)),
+            24 | 31 => (0, random.between(-8, -1)),
             _ => (postponed, random.between(-8, postponed - 1)),
         },
         dll_reset: rule != 3 || random.chance(50),
@@ -154,7 +157,7 @@ fn damaged(random: &mut Random) -> Case {
 
 /// One to three refusals hold at once.
 fn malformed(random: &mut Random) -> Case {
-    let rule = random.pick(&[0, 0, 1, 24, 25]);
+    let rule = random.pick(&[0, 0, 1, 24, 25, 31]);
     let length = random.below(30) as usize;
     let mut case = aimed(random, rule, length, 4);
     let wanted: Vec<u32> = (0..random.pick(&[1, 2, 2, 2, 3])).map(|_| random.pick(&FAULTS)).collect();

@@ -165,8 +165,13 @@ impl Header {
         9 * self.t_refi()
     }
 
+    /// Nine times tREFI's clocks too.
+    pub fn greatest_gap(&self) -> i64 {
+        9 * self.t_refi()
+    }
+
     pub fn greatest_t_ras(&self) -> i64 {
-        self.greatest(70_000_000)
+        self.greatest(if self.hot { 35_100_000 } else { 70_000_000 })
     }
 
     pub fn t_refi(&self) -> i64 {

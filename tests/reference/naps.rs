@@ -1,7 +1,8 @@
 //! Corners of power-down: each is set up on purpose, and then the rule is broken at it.
 
 use crate::controller::Controller;
-use crate::corners::{all_idle, pull_in};
+use crate::corners::all_idle;
+use crate::gaps::{keep_open, lower_at, run_ahead};
 use crate::recording::{registers_after, Command, Command::*, Event, Record};
 use crate::registers::Registers;
 use crate::rules::{latest_start, resets_dll};
@@ -14,7 +15,7 @@ const DLL_LOCK: i64 = 512;
 const TIME_ENOUGH: i64 = 1500;
 
 impl Controller {
-    fn at_least_edge(&mut self, record: Record) -> i64 {
+    pub fn at_least_edge(&mut self, record: Record) -> i64 {
         let edge = self.least_edge(&record);
         self.issue(record, edge);
         edge
@@ -36,7 +37,7 @@ impl Controller {
         self.exit()
     }
 
-    fn open(&mut self, bank: u8) -> i64 {
+    pub fn open(&mut self, bank: u8) -> i64 {
         let record = self.record(Act, bank, false);
         self.at_least_edge(record)
     }
@@ -63,7 +64,7 @@ impl Controller {
 }
 
 /// All banks idle, every register written, MR0 with this A12, a DLL reset long enough ago.
-fn ready_to_read(c: &mut Controller, a12: bool) -> Option<()> {
+pub fn ready_to_read(c: &mut Controller, a12: bool) -> Option<()> {
     all_idle(c);
     for number in 1..4 {
         if c.registers().0[number as usize].is_none() {
@@ -243,34 +244,32 @@ fn a12_changed(c: &mut Controller, at_exit: bool) -> Option<()> {
     None
 }
 
-/// At the edge at which this deadline breaks a record breaks a rule above it: the deadline is told.
+/// At the edge at which this deadline breaks a record breaks another rule: the lower is told.
 pub fn with_the_deadline(c: &mut Controller, rule: u8) -> Option<()> {
-    if rule == 24 {
-        keep_open(c)?;
-    } else if c.random.chance(70) {
-        ready_to_read(c, false)?;
+    match rule {
+        24 => keep_open(c)?,
+        25 if c.random.chance(30) => {}
+        _ => ready_to_read(c, false)?,
+    }
+    if rule == 31 {
+        run_ahead(c)?;
     }
     let (deadline, which) = c.deadline()?;
     if which != rule || deadline - c.now() < TIME_ENOUGH {
         return None;
     }
-    let above: &[u8] = if rule == 24 { &[26, 27, 29] } else { &[26, 26, 27, 28, 28, 29, 30] };
-    match c.random.pick(above) {
+    let others: &[u8] = match rule {
+        24 => &[26, 27, 29],
+        25 => &[26, 26, 27, 29, 30],
+        _ => &[1, 1, 1, 1, 26, 26, 27, 29, 29, 30, 30],
+    };
+    match c.random.pick(others) {
+        1 => lower_at(c, deadline),
         26 => entry_at(c, deadline),
         27 => change_at(c, deadline),
-        28 => stay_until(c),
         29 => command_at(c, deadline),
         _ => read_at(c, deadline),
     }
-}
-
-/// A bank open and no refresh due before it is late.
-fn keep_open(c: &mut Controller) -> Option<()> {
-    ready_to_read(c, false)?;
-    pull_in(c);
-    let bank = c.random.below(8) as u8;
-    c.open(bank);
-    Some(())
 }
 
 /// A WR, RD or MRS, and too soon after it an entry at the deadline.
@@ -340,21 +339,5 @@ fn read_at(c: &mut Controller, deadline: i64) -> Option<()> {
         return None;
     }
     c.issue(read, deadline);
-    Some(())
-}
-
-/// The ninth refresh is owed at the edge at which the stay is too long: 25 is lower than 28.
-fn stay_until(c: &mut Controller) -> Option<()> {
-    pull_in(c);
-    let (deadline, rule) = c.deadline()?;
-    let entry = c.power_down();
-    let edge = deadline - c.header.greatest_stay() - 1;
-    if rule != 25 || edge < c.least_edge(&entry) {
-        return None;
-    }
-    c.issue(entry, edge);
-    let exit = c.record(Pdx, 0, false);
-    let later = c.random.pick(&[0, 1, 1000]);
-    c.issue(exit, deadline + later);
     Some(())
 }

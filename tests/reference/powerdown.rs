@@ -1,13 +1,12 @@
 //! What the generated recordings must have among them of power-down.
 
 use crate::banks::{bank_at, none_open, Bank};
-use crate::deadlines::broken_by_deadline;
 use crate::header::Header;
 use crate::recording::{entry_of_stay, Command::*, Event};
 use crate::rules::{broken_by_record, needed, Break};
 
 /// What a record shows in a recording that is clean up to it.
-const RECORDS: [&str; 11] = [
+const RECORDS: [&str; 10] = [
     "PDE, a bank open",
     "PDE, a bank closing and none open",
     "PDE, all banks idle",
@@ -17,18 +16,13 @@ const RECORDS: [&str; 11] = [
     "PDX from an open bank's power-down",
     "PDX from precharge power-down, MR0 A12 = 0",
     "PDX from precharge power-down, MR0 A12 = 1",
-    "PDX at the greatest stay",
     "RD soon after an exit with MR0 A12 = 1 that is 0 since",
 ];
 
 /// What else holds where a break is told.
-const BREAKS: [&str; 10] = [
+const BREAKS: [&str; 6] = [
     "rule 25 in power-down",
     "rule 26 by an older WR with auto precharge behind a later WR",
-    "rule 28 with a bank open",
-    "rule 28 with no bank open",
-    "rule 28 at the edge of the exit",
-    "rule 28 with no record at its edge",
     "rule 30 behind a later exit",
     "rule 30 after an entry with a bank closing",
     "rule 30 after an exit with MR0 A12 = 0 that is 1 since",
@@ -36,10 +30,10 @@ const BREAKS: [&str; 10] = [
 ];
 
 /// Rules broken at one edge: the lower is told. Not 24 and 30: at the entry no bank is open, and one that is closing starts
-/// in time, for rule 26 held the entry back. Not 24 and 28: of a bank open at the entry 24, or on a hot part 25, comes first.
-const AT_ONE_EDGE: [(u8, u8); 8] = [(24, 26), (24, 27), (24, 29), (25, 26), (25, 27), (25, 28), (25, 29), (25, 30)];
+/// in time, for rule 26 held the entry back. Not 28: before it 25 or 31 is broken.
+const AT_ONE_EDGE: [(u8, u8); 7] = [(24, 26), (24, 27), (24, 29), (25, 26), (25, 27), (25, 29), (25, 30)];
 
-fn at_one_edge(told: u8, above: u8) -> String {
+pub fn at_one_edge(told: u8, above: u8) -> String {
     format!("rule {told} at an edge that breaks {above} too")
 }
 
@@ -98,17 +92,16 @@ pub fn record_features(header: &Header, past: &[Event]) -> Vec<String> {
             }
         }
         Pdx => {
-            let Some((before, entry)) = before_entry(earlier) else { return vec![] };
+            let Some((before, _)) = before_entry(earlier) else { return vec![] };
             let high = a12(last.registers.0[0]);
             places.push(if !none_open(before) { 6 } else { 7 + (high == Some(true)) as usize });
-            places.extend((last.edge == entry.edge + header.greatest_stay()).then_some(9));
         }
         Rd => {
             let exit = earlier.iter().rfind(|event| event.command == Pdx);
             let turned =
                 |exit: &Event| a12(exit.registers.0[0]) == Some(true) && a12(last.registers.0[0]) == Some(false);
             let soon = exit.is_some_and(|exit| turned(exit) && last.edge < exit.edge + header.t_xpdll());
-            places.extend(soon.then_some(10));
+            places.extend(soon.then_some(9));
         }
         _ => {}
     }
@@ -129,26 +122,17 @@ pub fn break_features(header: &Header, past: &[Event], broken: &Break) -> Vec<St
             let auto = partner.is_some_and(|partner| partner.command == Wr && partner.a10());
             places.extend((auto && since_is(Wr)).then_some(1));
         }
-        28 => {
-            places.push(2 + none_open(before) as usize);
-            let exits = past.last().is_some_and(|last| last.edge == edge && last.command == Pdx);
-            places.extend(exits.then_some(4));
-            places.extend((before.len() == past.len()).then_some(5));
-        }
         30 => {
-            places.push(if since_is(Pdx) { 6 } else { 9 });
+            places.push(if since_is(Pdx) { 2 } else { 5 });
             let entry = partner.and_then(|exit| before_entry(&past[..exit.number]));
-            places.extend(entry.filter(|(before, entry)| any_closing(header, before, entry.edge)).map(|_| 7));
+            places.extend(entry.filter(|(before, entry)| any_closing(header, before, entry.edge)).map(|_| 3));
             let now = past.last().and_then(|last| a12(last.registers.0[0]));
-            places.extend((now == Some(true)).then_some(8));
+            places.extend((now == Some(true)).then_some(4));
         }
         _ => {}
     }
     let at_record = before.len() < past.len();
-    let also = |rule: u8| match rule {
-        28 => broken_by_deadline(header, past, edge, rule).is_some(),
-        _ => at_record && broken_by_record(header, past, rule).is_some(),
-    };
+    let also = |rule: u8| at_record && broken_by_record(header, past, rule).is_some();
     let above = AT_ONE_EDGE.iter().filter(|(told, above)| *told == broken.rule && also(*above));
     let above: Vec<String> = above.map(|(told, above)| at_one_edge(*told, *above)).collect();
     places.into_iter().map(|place: usize| BREAKS[place].to_string()).chain(above).collect()

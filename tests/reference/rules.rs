@@ -1,4 +1,4 @@
-//! Rules 1 to 30 but for the deadlines: whether the last record of a past breaks a rule.
+//! Rules 1 to 31 but for the deadlines: whether the last record of a past breaks a rule.
 //! Each rule looks back over all earlier records; the paper's sentence stands beside it.
 
 use crate::banks::{bank_at, covers, precharge_start, Bank};

@@ -2,20 +2,21 @@
 
 use crate::controller::{pins_of, Controller, SPACINGS};
 use crate::corners::corner;
+use crate::gaps::{keep_open, run_ahead};
 use crate::header::least_period;
 use crate::random::Random;
-use crate::recording::{Command::*, Event, Record};
+use crate::recording::{cke_after, Command::*, Event, Record};
 use crate::rules::latest_start;
 use crate::settings::{allowed_code, random_header, with_another_latency};
 use crate::verdict::broken_at;
 
-const DEADLINES: [u8; 3] = [24, 25, 28];
+const DEADLINES: [u8; 3] = [24, 25, 31];
 
 /// Issues a next record; true if it breaks the rule, as far as the controller knows.
 pub fn slip(controller: &mut Controller, rule: u8) -> bool {
     let often = match rule {
         3 => 80,
-        24..=30 => 40,
+        24..=31 => 40,
         _ => 20,
     };
     if controller.random.chance(often) && corner(controller, rule).is_some() {
@@ -64,7 +65,7 @@ fn proposal(controller: &mut Controller, rule: u8) -> Option<(Record, i64)> {
         3 if controller.random.chance(60) => Some(nearly_allowed(controller)),
         1..=3 => Some(any_record(controller)),
         23 => Some(self_refresh(controller)),
-        24 | 25 | 28 => at_deadline(controller, rule),
+        24 | 25 | 31 => at_deadline(controller, rule),
         _ => None,
     }
 }
@@ -110,10 +111,10 @@ fn self_refresh(controller: &mut Controller) -> (Record, i64) {
 
 /// A record at the edge where the deadline breaks, or after it.
 fn at_deadline(controller: &mut Controller, rule: u8) -> Option<(Record, i64)> {
-    let (deadline, which) = controller.deadline()?;
-    if which != rule {
-        return None;
+    if controller.deadline()?.1 != rule {
+        bring_about(controller, rule)?;
     }
+    let (deadline, _) = controller.deadline().filter(|(_, which)| *which == rule)?;
     match controller.random.below(6) {
         0 | 1 if rule == 24 => late_column(controller, deadline),
         2 if rule == 24 => return late_precharge(controller, deadline),
@@ -123,6 +124,18 @@ fn at_deadline(controller: &mut Controller, rule: u8) -> Option<(Record, i64)> {
     let far = controller.random.between(1, 100_000);
     let later = controller.random.pick(&[0, 0, 0, 1, 1, far]);
     Some((record, (deadline + later).max(controller.now() + 1)))
+}
+
+/// Makes the rule's deadline the next one, if its records can come now.
+fn bring_about(controller: &mut Controller, rule: u8) -> Option<()> {
+    if !cke_after(&controller.past) {
+        return None;
+    }
+    match rule {
+        24 => keep_open(controller),
+        31 => run_ahead(controller).map(|_| ()),
+        _ => None,
+    }
 }
 
 /// A column just before 24 breaks: with auto precharge its start may come too late,

@@ -7,6 +7,10 @@ use std::collections::BTreeMap;
 /// From so many calls of each function on, every answer and every two refusals must have come.
 pub const ENOUGH_FOR_ALL: u64 = 20000;
 
+/// No recording has rule 28 as its verdict: the last REF is older than the entry, so 31 is broken before it, or 25 where
+/// there is no REF.
+pub const NEVER_TOLD: u8 = 28;
+
 /// Refusals in the order in which they are checked.
 const CHECKS: [(Function, &[u32]); 3] =
     [(Judge, &[9, 1, 2, 3, 4, 5, 7, 6, 8]), (Register, &[9, 1, 2, 3, 4, 11]), (Burst, &[10, 9])];
@@ -40,7 +44,10 @@ fn name_of(call: &Call, answer: &Result<Vec<u8>, u32>) -> String {
 fn all_names(function: Function, checks: &[u32]) -> Vec<String> {
     let refusals = checks.iter().filter(|refusal| **refusal != 11).map(|refusal| format!("refused {refusal}"));
     let taken: Vec<String> = match function {
-        Judge => std::iter::once("clean".to_string()).chain((1..=30).map(|rule| format!("rule {rule}"))).collect(),
+        Judge => {
+            let rules = (1..=31).filter(|rule| *rule != NEVER_TOLD);
+            std::iter::once("clean".to_string()).chain(rules.map(|rule| format!("rule {rule}"))).collect()
+        }
         Register => {
             let bits = all_bit_names().map(|name| format!("refused 11, {name}"));
             bits.chain((0..4).map(|number| format!("MR{number}"))).collect()

@@ -170,6 +170,26 @@ fn clock_counts(tally: &mut Tally) {
         p2.t_refi(),
     ];
     tally.compare("P2", "[12, 12, 44, 32, 6, 33, 8, 15, 150, 15, 159, 7289]", &format!("{p2_counts:?}"));
+    greatest_counts(tally);
+}
+
+/// Greatest tRAS and the greatest gap, not hot and hot. Of a hot part 35,100,000 ps are rounded down once, and nine
+/// intervals are nine times what is rounded down.
+fn greatest_counts(tally: &mut Tally) {
+    for (period, expected) in [
+        (1070u16, "[65420, 65601, 32803, 32796]"),
+        (1250, "[56000, 56160, 28080, 28080]"),
+        (1499, "[46697, 46827, 23415, 23409]"),
+        (1500, "[46666, 46800, 23400, 23400]"),
+        (1875, "[37333, 37440, 18720, 18720]"),
+        (2501, "[27988, 28062, 14034, 14031]"),
+        (3300, "[21212, 21267, 10636, 10629]"),
+    ] {
+        let [high, low] = period.to_be_bytes();
+        let [cold, hot] = [0, 0x80].map(|bit| read_header(&[0x1C, high | bit, low, 0, 0, 0]).unwrap());
+        let counts = [cold.greatest_t_ras(), cold.greatest_gap(), hot.greatest_t_ras(), hot.greatest_gap()];
+        tally.compare(&format!("greatest times at {period} ps"), expected, &format!("{counts:?}"));
+    }
 }
 
 fn orders_and_codes(tally: &mut Tally) {

@@ -26,8 +26,8 @@ pub struct Closing {
 
 /// What is broken at this edge, the lowest rule first; the past holds the records up to it.
 pub fn broken_at(header: &Header, past: &[Event], edge: i64) -> Option<Break> {
-    (1..=30).find_map(|rule| match rule {
-        24 | 25 | 28 => broken_by_deadline(header, past, edge, rule),
+    (1..=31).find_map(|rule| match rule {
+        24 | 25 | 28 | 31 => broken_by_deadline(header, past, edge, rule),
         _ if last_edge(past) == edge => broken_by_record(header, past, rule),
         _ => None,
     })

@@ -72,8 +72,16 @@ def counted_from(said):
     return earlier
 
 
+def asleep(said):
+    """Of rule 31: the edges from the last REF, or from edge 0, to the break that the awake clock does not count."""
+    return int(said['edge']) - int(said.get('partner_edge', '0')) - int(said['found'])
+
+
 def passed(said, rule):
     partner = f'{command(said, "partner")} ({place(said, "partner")})' if 'partner_file' in said else 'none'
     if rule in (24, 28):
         return f'passed at edge {said["edge"]}, {clocks(said["found"])} after {partner}, at most {said["needed"]}'
+    if rule == 31:
+        slept = f'; {asleep(said)} edges between them are asleep' if asleep(said) else ''
+        return f'passed at edge {said["edge"]}, {clocks(said["found"])} awake after {partner}, at most {said["needed"]}{slept}'
     return f'{said["found"]} refreshes owed at edge {said["edge"]}, at most {said["needed"]}; last REF {partner}'

@@ -111,7 +111,7 @@ def commands(said):
 
 
 def times(said):
-    named = {**SHOWN, 'most': 'greatest tRAS', 'trefi': 'tREFI', 'stay': 'greatest stay in power-down'}
+    named = {**SHOWN, 'most': 'greatest tRAS', 'trefi': 'tREFI', 'stay': 'greatest stay in power-down, greatest gap between REFs'}
     found = [(named[key[7:]], value) for key, value in said.items() if key.startswith('clocks_')]
     return table(['time', 'clocks'] * 4, [[cell for pair in found[i:i + 4] for cell in pair] for i in range(0, len(found), 4)], ' n n n n')
 

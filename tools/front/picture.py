@@ -1,6 +1,6 @@
 """The picture of a verdict: of a break its records among those around it, of a clean recording the use of the bus. It draws what the proved program says."""
 
-from brief import BANKED
+from brief import BANKED, asleep
 from bususe import bus_use
 from drawing import BOLD, WIDE, Sheet
 from files import shown
@@ -194,7 +194,8 @@ class Drawing:
             return 'no REF between'
         if rule == 25:
             return f'{said["found"]} refreshes owed, at most {said["needed"]}'
-        return f'found {said["found"]}, {"needed" if self.what.number else "at most"} {said["needed"]}'
+        slept = f'; {asleep(said)} edges asleep do not count' if rule == 31 and asleep(said) else ''
+        return f'found {said["found"]}, {"needed" if self.what.number else "at most"} {said["needed"]}{slept}'
 
 
 def value(record, lane):

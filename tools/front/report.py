@@ -1,6 +1,6 @@
 """The report for a person: the verdict first, how it comes about, then the tables."""
 
-from brief import command, place, told
+from brief import asleep, command, place, told
 from layout import BINS
 from sums import needed
 from words import RULES
@@ -44,11 +44,14 @@ def broken(said, last):
 
 def counts(said, rule):
     if rule == 24:
-        yield f'  limit: greatest tRAS 70000000 ps / {said["period_ps"]} ps, rounded down = {said["needed"]} clocks'
+        greatest = 35100000 if said['hot'] == '1' else 70000000
+        yield f'  limit: greatest tRAS {greatest} ps / {said["period_ps"]} ps, rounded down = {said["needed"]} clocks'
     elif rule == 25:
         yield f'  limit: a debt of 8; each {said["clocks_trefi"]} clocks awake one refresh falls due'
-    elif rule == 28:
-        yield f'  limit: nine times tREFI, 9 x {said["clocks_trefi"]} = {said["needed"]} clocks'
+    elif rule in (28, 31):
+        yield f'  limit: nine times tREFI, 9 x {said["clocks_trefi"]} = {said["needed"]} clocks' + (' awake' if rule == 31 else '')
+        if rule == 31 and asleep(said):
+            yield f'  edges from that REF: {int(said["found"]) + asleep(said)}, {asleep(said)} of them asleep, which do not count'
     else:
         sum_ = needed(said)
         yield f'  found {said["found"]}, needed {said["needed"]} clocks' + (f': {sum_}' if sum_ else '')

@@ -30,7 +30,8 @@ class Slot:
 
 
 class Break:
-    """start and edge are the ends of the arrow, limit the edge that the rule names; None where the rule counts no clocks."""
+    """start and edge are the ends of the arrow, limit the edge that the rule names; None where the rule counts no clocks. Rule 31 counts clocks
+    awake: its arrow begins at its REF, however many edges were slept since, and the edge before the break is the last that it allows."""
 
     def __init__(self, said, names, detail):
         self.near, self.apart, self.one_by_one = detail
@@ -38,8 +39,8 @@ class Break:
         self.number, self.partner = int(said['record']), int(said['partner'])
         self.partner_edge = int(said['partner_edge']) if self.partner else None
         self.counted = self.rule not in (1, 2, 3, 23, 25)
-        self.start = self.edge - int(said['found']) if self.counted else self.partner_edge
-        self.limit = self.start + int(said['needed']) if self.counted else None
+        self.start = self.edge - int(said['found']) if self.counted and self.rule != 31 else self.partner_edge
+        self.limit = self.edge - int(said['found']) + int(said['needed']) if self.counted else None
         self.records = {int(r['edge']): r for first, last in self.ranges() for r in listed(names, first, last)}
 
     def ranges(self):

@@ -13,6 +13,7 @@ NAMES = {
     1: 'CKE change', 2: 'bank state', 3: 'registers', 4: 'tRCD', 5: 'tRP', 6: 'tRC', 7: 'tRRD', 8: 'tFAW', 9: 'tRAS', 10: 'AL + tRTP', 11: 'WL + h + tWR',
     12: 'column to column', 13: 'RD to WR', 14: 'WR to RD', 15: 'tRFC', 16: 'tMRD', 17: 'tMOD', 18: 'ZQ time', 19: 'RL + b', 20: 'DLL', 21: 'tXS', 22: 'tCKE + 1',
     23: 'REF between SRX and SRE', 24: 'greatest tRAS', 25: 'refresh debt', 26: 'power-down entry', 27: 'tCKE', 28: 'greatest stay', 29: 'tXP', 30: 'tXPDLL',
+    31: 'nine intervals',
 }
 
 RULES = {
@@ -46,4 +47,5 @@ RULES = {
     28: "a power-down ends no later than its entry and nine times tREFI's clocks",
     29: 'from a power-down exit to any command at least tXP',
     30: 'from the exit of a precharge power-down, with A12 = 0 in MR0, to a RD at least tXPDLL',
+    31: "no two REFs are farther apart than nine times tREFI's clocks on the awake clock",
 }
