@@ -20,7 +20,7 @@ Register header number code before r after = Read header number code before r af
 abbrev pub Burst : (n start kind direction : ℕ) (before : List ℕ) (r : ℕ) (after : List ℕ) → Type 0
 Burst n start kind direction before r after = Wrote (codeOf n start (length before)) (orderOf n start kind direction) before r after
 
--- "Judging a whole recording checks 9, 1, 2, 3, 4, 5, 7, 6, 8", and the 20 bytes of the verdict by the 30 rules
+-- "Judging a whole recording checks 9, 1, 2, 3, 4, 5, 7, 6, 8", and the 20 bytes of the verdict by the 31 rules
 abbrev pub Judge : (recording : List ℕ) (end : ℕ) (before : List ℕ) (r : ℕ) (after : List ℕ) → Type 0
 Judge recording end before r after =
     Wrote (judgeCode recording end (length before)) (verdictBytes (wholeVerdict recording end)) before r after

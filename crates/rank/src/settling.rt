@@ -1,10 +1,5 @@
 // The rank of what the loop holds: the floor is put into the eight banks and the device.
 use crate::numbers::most_of;
-use answers::Verdict;
-use edges::Acts;
-use edges::Banks;
-use edges::Debt;
-use edges::Device;
 use edges::Floor;
 use edges::Rank;
 use edges::Waits;

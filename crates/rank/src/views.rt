@@ -1,4 +1,4 @@
-// What is kept, as rules 1 to 30 ask for it: the marks of a bank, and those that all banks share.
+// What is kept, as the rules ask for it: the marks of a bank, and those that all banks share.
 use chip::Chip;
 use chip::Regs;
 use edges::Acts;

@@ -8,7 +8,7 @@ use mathlib.Core.Logic.{_⊎_, inl, inr, ⊎-elim}
 use lib.ListN.{length, take, drop}
 use lib.Dec.{eqb, ltb}
 use borrow.Author.Tests.{lt-ltb, le-ltb}
-use Rattle.laws.specs.Lent.{written, Wrote}
+use Rattle.laws.specs.Lent.{written}
 use Rattle.laws.proofs.Lent.{writes, later-bytes-kept, same-answer}
 use Rattle.laws.proofs.Unique.{Unique, one-answer}
 use Rattle.header.specs.declared.Header.{Header}

@@ -1,1 +1,1 @@
-// No code: the 30 rules as definitions that look back over a recording. They stand in specs/.
+// No code: the 31 rules as definitions that look back over a recording. They stand in specs/.

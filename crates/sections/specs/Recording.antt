@@ -39,6 +39,6 @@ wholeRefusal bs end = cond (eqb (headerRefusal (headerBytes bs)) 0) (recordsRefu
 unfoldable pub judgeCode : List ℕ → (end room : ℕ) → ℕ
 judgeCode bs end room = cond (ltb room 20) 9 (wholeRefusal bs end)
 
--- the verdict by the 30 rules, looking back over all of the recording
+-- the verdict by the 31 rules, looking back over all of the recording
 unfoldable pub wholeVerdict : List ℕ → (end : ℕ) → Verdict
 wholeVerdict bs end = shownVerdict (chipOf (headerOf (headerWord (headerBytes bs)))) (past bs) end

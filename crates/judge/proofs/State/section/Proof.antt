@@ -1,6 +1,6 @@
 -- Checks 17, 5, 7, 6; then the records.
 -- Assumes nothing.
-use borrow.Author.Tests.{lt-ltb, le-ltb, eq-eqb, ne-eqb, not-true, not-false}
+use borrow.Author.Tests.{lt-ltb, eq-eqb, ne-eqb, not-true, not-false}
 use mathlib.Core.Path.{sym, ap, _∙_}
 use Rattle.chip.specs.declared.Chip.{Chip}
 use Rattle.edges.specs.Ends.{takenOf}

@@ -1,8 +1,6 @@
 use borrow.Author.Needs.{needs}
 use Rattle.rank.proofs.changes.asked_by.Statement.{statement}
 use Rattle.rank.proofs.changes.asked_by.Tie as tie
-use Rattle.rank.proofs.changes.asked_by.Reads as reads
-use Rattle.rank.proofs.changes.asked_by.Lts as lts
 
 enum-told : tie.Need-enum-told
 enum-told c = search needs

@@ -4,8 +4,6 @@ use Rattle.edges.specs.Ways.{heldTo}
 use borrow.Author.Needs.{needs}
 use Rattle.rank.proofs.changes.holds_next.Statement.{statement}
 use Rattle.rank.proofs.changes.holds_next.Tie as tie
-use Rattle.rank.proofs.changes.holds_next.Reads as reads
-use Rattle.rank.proofs.changes.holds_next.Lts as lts
 use Rattle.rank.proofs.seldom.held_to.Reads as held-to-reads
 
 add-y : tie.Need-add-y

@@ -5,8 +5,6 @@ use Rattle.edges.specs.Ways.{rdFloor}
 use borrow.Author.Needs.{needs}
 use Rattle.rank.proofs.changes.mode_floor.Statement.{statement}
 use Rattle.rank.proofs.changes.mode_floor.Tie as tie
-use Rattle.rank.proofs.changes.mode_floor.Reads as reads
-use Rattle.rank.proofs.changes.mode_floor.Lts as lts
 use Rattle.rank.proofs.changes.resets.Reads as resets-reads
 use Rattle.rank.proofs.seldom.raised.Reads as raised-reads
 use Rattle.rank.proofs.seldom.reads_later.Reads as reads-later-reads

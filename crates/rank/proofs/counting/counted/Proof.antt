@@ -5,7 +5,7 @@ use native.Mathlib.Omega.{arith}
 use lib.ListN.{length}
 use Rattle.edges.specs.Folding.{Counts}
 use Rattle.edges.specs.Step.{stoppedOf}
-use Rattle.edges.proofs.Counts.{counts-start, counts-end, counts-whole, counts-edge, counts-count, counts-zero, counts-next}
+use Rattle.edges.proofs.Counts.{counts-start, counts-end, counts-edge, counts-count, counts-zero, counts-next}
 use Rattle.rank.proofs.counting.counted.Statement.{statement}
 use Rattle.rank.proofs.counting.counted.Tie as tie
 

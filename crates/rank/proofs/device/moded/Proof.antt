@@ -3,8 +3,6 @@ use Rattle.edges.proofs.Stamps.{dev-mrs, dev-reset}
 use borrow.Author.Needs.{needs}
 use Rattle.rank.proofs.device.moded.Statement.{statement}
 use Rattle.rank.proofs.device.moded.Tie as tie
-use Rattle.rank.proofs.device.moded.Reads as reads
-use Rattle.rank.proofs.device.moded.Lts as lts
 use Rattle.rank.proofs.changes.resets.Reads as resets-reads
 use Rattle.rank.proofs.seldom.put.Reads as put-reads
 use Rattle.rank.proofs.seldom.stamp.Reads as stamp-reads

@@ -5,8 +5,6 @@ use mathlib.Core.Bool.{false≢true}
 use Rattle.edges.proofs.Resting.{CalmTo, calm-none, calm-more, calm-all}
 use Rattle.rank.proofs.seldom.calm.Statement.{statement}
 use Rattle.rank.proofs.seldom.calm.Tie as tie
-use Rattle.rank.proofs.seldom.calm.Reads as reads
-use Rattle.rank.proofs.seldom.calm.Lts as lts
 
 abbrev Inv-loop : tie.InvT-loop
 Inv-loop actno shutat shutno pre e b₀ b = CalmTo actno shutat shutno pre e b

@@ -2,8 +2,6 @@ use mathlib.Core.List.{[], _∷_}
 use borrow.Author.Needs.{needs}
 use Rattle.rank.proofs.seldom.held_to.Statement.{statement}
 use Rattle.rank.proofs.seldom.held_to.Tie as tie
-use Rattle.rank.proofs.seldom.held_to.Reads as reads
-use Rattle.rank.proofs.seldom.held_to.Lts as lts
 use Rattle.rank.proofs.numbers.most_of.Reads as most-of-reads
 
 array-read-most-of : tie.Need-array-read-most-of

@@ -5,8 +5,6 @@ use mathlib.Core.Bool.{false≢true}
 use Rattle.edges.proofs.Resting.{IdleTo, idle-none, idle-more, idle-all}
 use Rattle.rank.proofs.seldom.idle.Statement.{statement}
 use Rattle.rank.proofs.seldom.idle.Tie as tie
-use Rattle.rank.proofs.seldom.idle.Reads as reads
-use Rattle.rank.proofs.seldom.idle.Lts as lts
 
 abbrev Inv-loop : tie.InvT-loop
 Inv-loop actno shutat shutno e b₀ b = IdleTo actno shutat shutno e b

@@ -4,8 +4,6 @@ use borrow.Author.Tests.{leb-true}
 use borrow.Author.Needs.{needs}
 use Rattle.rank.proofs.seldom.may_wake.Statement.{statement}
 use Rattle.rank.proofs.seldom.may_wake.Tie as tie
-use Rattle.rank.proofs.seldom.may_wake.Reads as reads
-use Rattle.rank.proofs.seldom.may_wake.Lts as lts
 use Rattle.kept.proofs.since.Reads as since-reads
 
 since-requires : tie.Need-since-requires

@@ -2,8 +2,6 @@ use Rattle.laws.specs.Eight.{table}
 use borrow.Author.Needs.{needs}
 use Rattle.rank.proofs.settling.sixteen.Statement.{statement}
 use Rattle.rank.proofs.settling.sixteen.Tie as tie
-use Rattle.rank.proofs.settling.sixteen.Reads as reads
-use Rattle.rank.proofs.settling.sixteen.Lts as lts
 use Rattle.rank.proofs.numbers.most_of.Reads as most-of-reads
 
 array-read-most-of : tie.Need-array-read-most-of

@@ -4,8 +4,6 @@ use Rattle.edges.specs.Floors.{under}
 use borrow.Author.Needs.{needs}
 use Rattle.rank.proofs.settling.under.Statement.{statement}
 use Rattle.rank.proofs.settling.under.Tie as tie
-use Rattle.rank.proofs.settling.under.Reads as reads
-use Rattle.rank.proofs.settling.under.Lts as lts
 use Rattle.rank.proofs.numbers.most_of.Reads as most-of-reads
 use Rattle.rank.proofs.settling.eight.Reads as eight-reads
 use Rattle.rank.proofs.settling.sixteen.Reads as sixteen-reads

@@ -1,7 +1,6 @@
 -- What lets no sum wrap, one test after the other; then the records.
 -- Assumes nothing.
-use native.Mathlib.Omega.{arith}
-use borrow.Author.Tests.{not-true, not-false, ltb-false, ne-eqb, eq-eqb, lt-ltb, le-ltb}
+use borrow.Author.Tests.{not-true, not-false, ne-eqb, eq-eqb, lt-ltb, le-ltb}
 use mathlib.Core.Path.{sym, _∙_}
 use Rattle.running.proofs.Ranging.{small-tested}
 use Rattle.edges.proofs.Ranging.{ranged}

@@ -1,8 +1,6 @@
 use borrow.Author.Needs.{needs}
 use Rattle.rank.proofs.ways.act_asks.Statement.{statement}
 use Rattle.rank.proofs.ways.act_asks.Tie as tie
-use Rattle.rank.proofs.ways.act_asks.Reads as reads
-use Rattle.rank.proofs.ways.act_asks.Lts as lts
 use Rattle.rank.proofs.numbers.most_of.Reads as most-of-reads
 
 mul-x : tie.Need-mul-x

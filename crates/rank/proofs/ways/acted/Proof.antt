@@ -2,8 +2,6 @@ use mathlib.Core.Path.{refl}
 use borrow.Author.Needs.{needs}
 use Rattle.rank.proofs.ways.acted.Statement.{statement}
 use Rattle.rank.proofs.ways.acted.Tie as tie
-use Rattle.rank.proofs.ways.acted.Reads as reads
-use Rattle.rank.proofs.ways.acted.Lts as lts
 
 mul-actat : tie.Need-mul-actat
 mul-actat c = search needs

@@ -2,8 +2,6 @@ use native.Mathlib.Omega.{arith}
 use borrow.Author.Needs.{needs}
 use Rattle.rank.proofs.ways.col_start.Statement.{statement}
 use Rattle.rank.proofs.ways.col_start.Tie as tie
-use Rattle.rank.proofs.ways.col_start.Reads as reads
-use Rattle.rank.proofs.ways.col_start.Lts as lts
 use Rattle.rank.proofs.numbers.if_so.Reads as if-so-reads
 use Rattle.rank.proofs.numbers.most_of.Reads as most-of-reads
 use Rattle.rank.proofs.numbers.one_of.Reads as one-of-reads

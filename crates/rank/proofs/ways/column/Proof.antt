@@ -2,8 +2,6 @@ use mathlib.Core.Path.{refl}
 use borrow.Author.Needs.{needs}
 use Rattle.rank.proofs.ways.column.Statement.{statement}
 use Rattle.rank.proofs.ways.column.Tie as tie
-use Rattle.rank.proofs.ways.column.Reads as reads
-use Rattle.rank.proofs.ways.column.Lts as lts
 use Rattle.rank.proofs.numbers.if_so.Reads as if-so-reads
 use Rattle.rank.proofs.numbers.most_of.Reads as most-of-reads
 use Rattle.rank.proofs.numbers.one_of.Reads as one-of-reads

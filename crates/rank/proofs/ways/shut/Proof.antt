@@ -2,8 +2,6 @@ use mathlib.Core.Path.{refl}
 use borrow.Author.Needs.{needs}
 use Rattle.rank.proofs.ways.shut.Statement.{statement}
 use Rattle.rank.proofs.ways.shut.Tie as tie
-use Rattle.rank.proofs.ways.shut.Reads as reads
-use Rattle.rank.proofs.ways.shut.Lts as lts
 use Rattle.rank.proofs.numbers.most_of.Reads as most-of-reads
 
 mul-shutat : tie.Need-mul-shutat
