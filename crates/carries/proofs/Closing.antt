@@ -1,14 +1,11 @@
 -- Closing: what is answered at an end edge by the state as edges is what the rules say of the recording closed there.
 -- Assumes nothing.
-use Prim.Native.Nat.{ℕ, zero, suc, _+_, _-_, _*_, _/_, _%_, _≤_, _<_}
+use Prim.Native.Nat.{ℕ, _+_, _-_, _*_, _/_, _%_, _≤_, _<_}
 use native.Mathlib.Nat.{div-add-mod', add-mul, mod-lt, mul-add-div-right, div-eq-of-lt}
 use native.Mathlib.Omega.{arith}
 use mathlib.Core.Path.{_≡_, refl, sym, ap, _∙_}
-use mathlib.Core.Logic.{⊎-elim}
 use mathlib.Core.Bool.{Bool, true, false, cond}
-use mathlib.Core.List.{[]}
-use lib.Dec.{ltb, leb}
-use borrow.Author.Tests.{leb-false}
+use lib.Dec.{ltb}
 use Rattle.laws.specs.Eight.{table}
 use Rattle.laws.proofs.Eight.{table-ext}
 use Rattle.answers.specs.declared.Break.{Break}
@@ -26,17 +23,15 @@ use Rattle.edges.specs.Ends as edges
 use Rattle.edges.specs.Ends.{nextLate, verdictOf, banksAt, endOf}
 use Rattle.rules.specs.Past.{Past, edge, number, asleep, upTo}
 use Rattle.rules.specs.Banks.{status}
-use Rattle.rules.specs.Deadlines.{rule25, awakeTo, owedTo, owedAt}
+use Rattle.rules.specs.Deadlines.{awakeTo, owedTo, owedAt}
 use Rattle.rules.specs.Verdict.{Outcome, clean, stop, brokenAt, verdictTo, shown, shownVerdict, rest, answer, Apart}
-use Rattle.rules.proofs.Generic.{decide, broken-fine}
 use Rattle.rules.proofs.Facts.{Sound}
-use Rattle.rules.proofs.Debts.{owed-at, owed-now}
+use Rattle.rules.proofs.Debts.{owed-at}
 use Rattle.rules.proofs.Status.{status-of}
-use Rattle.rules.proofs.Numbered.{keep-clean, told-clean, by-number}
 use Rattle.rules.proofs.Sense.{stays-to, stop-at, stop-after, clean-edges, earliest}
 use Rattle.rules.proofs.Gap.{nowAny}
-use Rattle.rules.proofs.UpTo.{up-to-all, up-to-edge, up-to-zero}
-use Rattle.rules.proofs.Edges.{clean-past, gap-says, late-after, small-owed, near-stay, near-ref}
+use Rattle.rules.proofs.UpTo.{up-to-all, up-to-edge}
+use Rattle.rules.proofs.Edges.{clean-past, gap-says, late-after, small-owed-at, small-owed, near-stay, near-ref}
 use Rattle.rules.proofs.Turn.{said}
 use Rattle.rules.proofs.Closing.{rest-shown, registersIn, registers-in, answer-of}
 use Rattle.carries.proofs.Summary.{clocksLeft, debtOf, banksOf, deviceOf, summary}
@@ -83,18 +78,6 @@ module _ (C : Chip) (pos : 0 < C .trefi) where
       go true h = by 0 (0 + ((17 - o) * T - f) - 0) (omega arith) h
       go false h = by (u - edge q) (edge q + ((17 - o) * T - f) - u) (omega arith) h
 
-  -- at an edge that is not broken at most 16 are owed
-  owed-small : (p : Past) → Apart p → (u : ℕ) → (0 < u → brokenAt C p u ≡ clean) → owedAt (C .trefi) (upTo u p) u ≤ 16
-  unfolding owedTo
-  owed-small p apart zero h = rw (up-to-zero p apart) (omega (arith, owed-now pos []))
-  owed-small p apart (suc u) h =
-      let w = keep-clean _ _ (keep-clean _ _ (keep-clean _ _ (sym (by-number C p (suc u)) ∙ h (omega arith)) .1) .1) .0 in
-      let fine = told-clean (suc u) 0 (rule25 C p (suc u)) w in
-      ⊎-elim
-      (λ (y : leb 17 (owedAt (C .trefi) (upTo (suc u) p) (suc u)) ≡ true). absurd (broken-fine (rw y at fine)))
-      (λ (n : leb 17 (owedAt (C .trefi) (upTo (suc u) p) (suc u)) ≡ false). omega (arith, leb-false 17 (owedAt (C .trefi) (upTo (suc u) p) (suc u)) n))
-      (decide (leb 17 (owedAt (C .trefi) (upTo (suc u) p) (suc u))))
-
 -- the edge at which banks, registers and debt are shown is not broken
 at-rest : (C : Chip) (p : Past) (t : ℕ) (v : Outcome) → verdictTo C p t ≡ v → 0 < rest v t → brokenAt C p (rest v t) ≡ clean
 at-rest C p t clean z l = clean-edges C p t z t l (omega arith)
@@ -130,7 +113,7 @@ module _ (C : Chip) (S : Sound C) (p : Past) (t : ℕ) where
       at = ap (λ v. restOf v t) says ∙ rest-shown (verdictTo C p t) (number p) t
 
       kept : edges.owedAt C (debtOf C (upTo u p)) u ≡ owedAt (C .trefi) (upTo u p) u
-      kept = owed-in C (S .refi-least) (upTo u p) u (up-to-edge u p) (owed-small C (S .refi-least) p apart u (at-rest C p t (verdictTo C p t) refl))
+      kept = owed-in C (S .refi-least) (upTo u p) u (up-to-edge u p) (small-owed-at C (S .refi-least) p apart u (at-rest C p t (verdictTo C p t) refl))
 
       owed : edges.owedAt C (debtOf C q) u ≡ owedAt (C .trefi) q u
       owed = ap (λ x. edges.owedAt C (debtOf C x) u) (sym keeps) ∙ kept ∙ ap (λ x. owedAt (C .trefi) x u) keeps

@@ -127,7 +127,7 @@ module _ (m : ℕ) (r : Record) (p : Past) where
 
 -- ── An edge of the debt ─────────────────────────────────────────────────────────────────────
 
--- at most one of a REF, an SRE and an SRX, as far as it matters
+-- a REF is no SRE and no SRX
 abbrev Alone : (ref sre srx : Bool) → Type 0
 Alone ref sre srx = ref ≡ true → (sre ≡ false) × (srx ≡ false)
 

@@ -11,6 +11,7 @@ pub use latencies::h_of;
 pub use latencies::wr_of;
 pub use part::chip_of;
 
+// most: greatest tRAS. nine: nine times tREFI, which rules 28 and 31 ask for.
 pub struct Chip {
     pub header: Header,
     pub trcd: u32,

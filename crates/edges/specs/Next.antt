@@ -105,7 +105,7 @@ deviceNext C c r e n slow D =
 abbrev pub counting : Debt → (e : ℕ) → ℕ
 counting D e = cond (D .sleeps) 0 e
 
--- and to which an SRX brings a part that sleeps
+-- what an SRX adds: the clocks that were left of a part that sleeps are counted from its edge on
 abbrev pub woken : Debt → (e : ℕ) → ℕ
 woken D e = cond (D .sleeps) e 0
 

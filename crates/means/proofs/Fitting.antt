@@ -28,7 +28,8 @@ use Rattle.rules.specs.Banks.{actOn, isIdle, status}
 use Rattle.rules.specs.Rules.{Row, r4, r6, r7, r9, r10, r11, r12r, r12w, r13, r14, r15, r16, r17, r18, r19, r20, r21, r22, r26, r27, r29, r30, toEntry, spacing}
 use Rattle.rules.specs.Verdict.{Outcome, clean, stop, verdictTo, shown, shownVerdict, Apart}
 use Rattle.rules.proofs.Generic.{decide}
-use Rattle.rules.proofs.Events.{number-le, latest-is}
+use Rattle.rules.proofs.Events.{number-le}
+use Rattle.rules.proofs.Status.{latest-number}
 use Rattle.rules.proofs.Facts.{burst-bounds}
 use Rattle.means.specs.Partners.{Fourth}
 use Rattle.means.specs.Pairs.{Lacks, code, registers, reset, Pair, other-change, in-the-way, lacking, too-soon, precharging, five-acts, no-refresh}
@@ -198,9 +199,6 @@ module _ (C : Chip) (L : Low C) where
 
   told : {n k x m f : ℕ} → k ≤ 31 → x ≤ n → m ≤ 320100 → f ≤ 320100 → Told n k x m f
   told a b c d = record { by-rule = a; by-partner = b; by-needed = c; by-found = d }
-
-  latest-number : (kind : Past → Bool) (p : Past) → number (latest kind p) ≤ number p
-  latest-number kind p = ⊎-elim (λ e. rw e (omega arith)) (λ w. number-le (w .0)) (latest-is kind p)
 
   tail-number : (p : Past) → number (tail p) ≤ number p
   tail-number [] = omega arith

@@ -4,12 +4,9 @@ use Prim.Native.Nat.{ℕ, _+_, _-_, _*_, _/_, _≤_, _<_}
 use native.Mathlib.Nat.{mul-assoc, le-div-iff-mul-le}
 use native.Mathlib.Omega.{arith}
 use native.Mathlib.Decide.{decLt}
-use mathlib.Core.Path.{_≡_, refl, sym, ap, _∙_}
-use mathlib.Core.Logic.{⊎-elim}
+use mathlib.Core.Path.{_≡_, refl, ap, _∙_}
 use mathlib.Core.Bool.{Bool, true, false, cond, _||_}
-use mathlib.Core.List.{[], _∷_}
-use lib.Dec.{eqb, leb}
-use borrow.Author.Tests.{leb-false}
+use lib.Dec.{eqb}
 use Rattle.answers.specs.declared.Break.the-variants.{Broken}
 use Rattle.records.specs.declared.Record.{Record}
 use Rattle.records.specs.declared.Command.the-variants.{Ref, Pde}
@@ -21,19 +18,17 @@ use Rattle.chip.specs.Chip.{chipOf}
 use Rattle.rules.specs.Past.{Past, edge, number, changes, asleep, is, latest, upTo}
 use Rattle.rules.specs.Banks.{actOn}
 use Rattle.rules.specs.Rules.{Row, r4, r6, r7, r9, r10, r11, r12r, r12w, r13, r14, r15, r16, r17, r18, r19, r20, r21, r22, r26, r27, r29, r30, spacing}
-use Rattle.rules.specs.Deadlines.{rule25, awakeTo, awakeAt, owedAt, sinceRef}
+use Rattle.rules.specs.Deadlines.{awakeTo, awakeAt, sinceRef}
 use Rattle.rules.specs.Down.{turned, down}
 use Rattle.rules.specs.Verdict.{clean, stop, brokenAt, verdictTo, Apart}
-use Rattle.rules.proofs.Generic.{decide, broken-fine}
 use Rattle.rules.proofs.Events.{never}
 use Rattle.rules.proofs.Clean.{Clean}
 use Rattle.rules.proofs.Facts.{sound}
 use Rattle.rules.proofs.Debts.{gapTo, since-at, owed-none-at}
 use Rattle.rules.proofs.Refreshed.{Unrefreshed, down-unrefreshed, busy-unrefreshed}
-use Rattle.rules.proofs.Numbered.{keep-clean, told-clean, by-number}
 use Rattle.rules.proofs.Sense.{clean-iff, earliest}
 use Rattle.rules.proofs.UpTo.{up-to-edge, apart-up-to}
-use Rattle.rules.proofs.Edges.{clean-up-to, near-ref-at}
+use Rattle.rules.proofs.Edges.{clean-up-to, small-owed-at, near-ref-at}
 use Rattle.means.specs.Pairs.{Pair, other-change, in-the-way, lacking, too-soon, precharging, five-acts, no-refresh}
 use Rattle.means.specs.Unseen.{Unseen}
 use Rattle.means.specs.Means.{How, record-did, limit-passed, debt-grew, stay-passed, gap-passed}
@@ -79,27 +74,14 @@ module _ (C : Chip) where
   pair-no (five-acts w) = refl
   pair-no (no-refresh w) = refl
 
--- ── The awake clock ─────────────────────────────────────────────────────────────────────────
-
--- it does not pass the edge
-awake-most : (p : Past) → awakeTo p ≤ edge p
-unfolding awakeTo
-awake-most [] = omega arith
-awake-most (r ∷ p) = go (asleep p) (awake-most p)
-  where
-    go : (s : Bool) → awakeTo p ≤ edge p → awakeTo p + cond s 0 (r .step) ≤ edge (r ∷ p)
-    go true l = omega arith
-    go false l = omega arith
-
--- and was one less at the edge before, if that
-awake-before : (p : Past) (t : ℕ) → edge p ≤ t - 1 → 1 ≤ t → (awakeAt p t ≤ awakeAt p (t - 1) + 1) × (awakeAt p (t - 1) ≤ t - 1)
+-- the awake clock was one less at the edge before, if that
+awake-before : (p : Past) (t : ℕ) → edge p ≤ t - 1 → awakeAt p t ≤ awakeAt p (t - 1) + 1
 unfolding awakeAt
-awake-before p t l m = go (asleep p) (awake-most p)
+awake-before p t l = go (asleep p)
   where
-    go : (s : Bool) → awakeTo p ≤ edge p
-        → (awakeTo p + cond s 0 (t - edge p) ≤ awakeTo p + cond s 0 (t - 1 - edge p) + 1) × (awakeTo p + cond s 0 (t - 1 - edge p) ≤ t - 1)
-    go true k = (omega arith, omega arith)
-    go false k = (omega arith, omega arith)
+    go : (s : Bool) → awakeTo p + cond s 0 (t - edge p) ≤ awakeTo p + cond s 0 (t - 1 - edge p) + 1
+    go true = omega arith
+    go false = omega arith
 
 -- ── Before the broken edge ──────────────────────────────────────────────────────────────────
 
@@ -157,24 +139,13 @@ module _ (C : Chip) (q : Past) (apart : Apart q) (end t n k x m f : ℕ) (broken
 
   -- where the limit is nine of the intervals that the debt counts
   module _ (pos : 0 < C .trefi) (nine : C .nine ≡ 9 * C .trefi) where
-    paid : 0 < t - 1 → owedAt (C .trefi) p (t - 1) ≤ 16
-    paid l =
-        let w = keep-clean _ _ (keep-clean _ _ (keep-clean _ _ (sym (by-number C q (t - 1)) ∙ fine l) .1) .1) .0 in
-        let b = told-clean (t - 1) 0 (rule25 C q (t - 1)) w in
-        ⊎-elim
-        (λ (y : leb 17 (owedAt (C .trefi) p (t - 1)) ≡ true). absurd (broken-fine (rw y at b)))
-        (λ (z : leb 17 (owedAt (C .trefi) p (t - 1)) ≡ false). omega (arith, leb-false 17 (owedAt (C .trefi) p (t - 1)) z))
-        (decide (leb 17 (owedAt (C .trefi) p (t - 1))))
-
     -- with no REF 25 passes one edge before 31
     unpaid : number (latest (is Ref) p) ≡ 0 → C .nine < sinceRef p t → ⊥
     unfolding sinceRef
     unpaid none far =
-        let before = awake-before p t (up-to-edge (t - 1) q) first in
-        let a = awakeAt p (t - 1) in
-        let nines : 9 * C .trefi ≤ awakeAt p (t - 1) = omega (arith, far, nine, before .0) in
+        let nines : 9 * C .trefi ≤ awakeAt p (t - 1) = omega (arith, far, nine, awake-before p t (up-to-edge (t - 1) q)) in
         let more : 9 ≤ awakeAt p (t - 1) / C .trefi = le-div-iff-mul-le pos .1 nines in
-        omega (arith, more, owed-none-at pos p (t - 1) none, paid (omega (arith, nines, before .1, pos)))
+        omega (arith, more, owed-none-at pos p (t - 1) none, small-owed-at C pos q apart (t - 1) fine)
 
     partner-31 : k ≡ 31 → 1 ≤ x
     partner-31 e = go how e

@@ -11,7 +11,7 @@ use mathlib.Core.List.{[], _∷_}
 use lib.Dec.{ltb, leb}
 use borrow.Author.Tests.{ltb-true, ltb-false, leb-true, leb-false, eq-eqb, ne-eqb}
 use Rattle.answers.specs.declared.Break.{Break}
-use Rattle.answers.specs.declared.Break.the-variants.{Fine, Broken}
+use Rattle.answers.specs.declared.Break.the-variants.{Fine}
 use Rattle.records.specs.declared.Record.{Record}
 use Rattle.records.specs.declared.Command.the-variants.{Ref}
 use Rattle.chip.specs.declared.Chip.{Chip}
@@ -27,7 +27,7 @@ use Rattle.rules.specs.Deadlines.{late, stayed, parted, rule24, rule25, 
 use Rattle.rules.specs.Verdict.{clean, stop, keep, told, recordSays, brokenAt, verdictTo, Apart}
 use Rattle.rules.specs.Down.{turned, down}
 use Rattle.rules.proofs.Generic.{decide, broken-fine}
-use Rattle.rules.proofs.UpTo.{up-to-all, up-to-skip, up-to-before}
+use Rattle.rules.proofs.UpTo.{up-to-all, up-to-skip, up-to-before, up-to-zero}
 use Rattle.rules.proofs.Numbered.{keep-clean, told-clean, told-both, inOrder, by-number, record-after}
 use Rattle.rules.proofs.Clean.{broken, Clean}
 use Rattle.rules.proofs.Debts.{gapTo, owed-now, since-at, gap-step}
@@ -152,20 +152,24 @@ module _ (C : Chip) where
       ap (λ u. owing (owedAt (C .trefi) u (edge p)) (number (latest (is Ref) u))) (up-to-all (edge p) p (omega arith))
       ∙ ap (λ o. owing o (number (latest (is Ref) p))) (owed-now z p)
 
-  -- after a clean past at most 16 are owed
-  pub small-owed : 0 < C .trefi → (p : Past) → Apart p → verdictTo C p (edge p) ≡ clean → owedTo (C .trefi) p ≤ 16
+  -- at an edge at which nothing is broken at most 16 are owed
+  pub small-owed-at : 0 < C .trefi → (p : Past) → Apart p → (u : ℕ) → (0 < u → brokenAt C p u ≡ clean) → owedAt (C .trefi) (upTo u p) u ≤ 16
   unfolding owedTo
-  small-owed z [] a h = omega arith
-  small-owed z (r ∷ p) a h =
-      let e = edge (r ∷ p) in
-      let k = clean-edges C (r ∷ p) e h e (omega arith) (omega arith) in
-      let d = keep-clean _ _ (keep-clean _ _ (keep-clean _ _ (sym (by-number C (r ∷ p) e) ∙ k) .1) .1) .0 in
-      let w = told-clean e 0 (rule25 C (r ∷ p) e) d in
+  small-owed-at z p a zero h = rw (up-to-zero p a) (omega (arith, owed-now z []))
+  small-owed-at z p a (suc u) h =
+      let w = keep-clean _ _ (keep-clean _ _ (keep-clean _ _ (sym (by-number C p (suc u)) ∙ h (omega arith)) .1) .1) .0 in
+      let fine = told-clean (suc u) 0 (rule25 C p (suc u)) w in
       ⊎-elim
-      (λ (y : leb 17 (owedTo (C .trefi) (r ∷ p)) ≡ true).
-      absurd (broken-fine (sym (ap (λ b. cond b (Broken 25 (number (latest (is Ref) (r ∷ p))) 8 9) Fine) y) ∙ sym (owing-now z (r ∷ p)) ∙ w)))
-      (λ (n : leb 17 (owedTo (C .trefi) (r ∷ p)) ≡ false). omega (arith, leb-false))
-      (decide (leb 17 (owedTo (C .trefi) (r ∷ p))))
+      (λ (y : leb 17 (owedAt (C .trefi) (upTo (suc u) p) (suc u)) ≡ true). absurd (broken-fine (rw y at fine)))
+      (λ (n : leb 17 (owedAt (C .trefi) (upTo (suc u) p) (suc u)) ≡ false). omega (arith, leb-false 17 (owedAt (C .trefi) (upTo (suc u) p) (suc u)) n))
+      (decide (leb 17 (owedAt (C .trefi) (upTo (suc u) p) (suc u))))
+
+  -- so after a clean past
+  pub small-owed : 0 < C .trefi → (p : Past) → Apart p → verdictTo C p (edge p) ≡ clean → owedTo (C .trefi) p ≤ 16
+  small-owed z p a h =
+      let w = small-owed-at z p a (edge p) (λ l. clean-edges C p (edge p) h (edge p) l (omega arith)) in
+      let e = ap (λ u. owedAt (C .trefi) u (edge p)) (up-to-all (edge p) p (omega arith)) in
+      omega (arith, w, e, owed-now z p)
 
   -- what the record breaks, by its number, and which deadline passes there
   pub at-record :

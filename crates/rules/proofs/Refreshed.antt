@@ -9,6 +9,7 @@ use mathlib.Core.Bool.{Bool, true, false, cond, not, _&&_, _||_}
 use mathlib.Core.List.{[], _∷_}
 use lib.Dec.{eqb, leb}
 use borrow.Author.Tests.{leb-true, le-leb}
+use Rattle.laws.proofs.Both.{both}
 use Rattle.answers.specs.declared.Bank.{Bank}
 use Rattle.answers.specs.declared.Bank.the-variants.{Idle, Open, Closing}
 use Rattle.records.specs.declared.Record.{Record}
@@ -29,7 +30,7 @@ use Rattle.rules.proofs.Starts.{start-pre}
 use Rattle.rules.proofs.Down.{low-is, low-in}
 use Rattle.rules.proofs.Debts.{gapTo, gap-step}
 
--- since the event s no REF came, and one awake clock at least had passed before it since the last
+-- since the event s no REF came, one awake clock at least had passed before it since the last, and the part is awake
 abbrev pub Unrefreshed : (p s : Past) → Type 0
 Unrefreshed p s = (edge p + 1 ≤ edge s + gapTo p) × (asleep p ≡ false)
 
@@ -81,10 +82,6 @@ module _ (C : Chip) where
       go true false v z w k = refl
       go true true v true w k = k
       go true true v false w k = never (le-leb (start C (r ∷ p)) u (omega (arith, leb-true (start C (r ∷ p)) e v))) w
-
-  both-first : (x y : Bool) → x && y ≡ true → x ≡ true
-  both-first true y h = refl
-  both-first false y h = h
 
   -- an ACT comes with CKE high before and now
   act-high : (r : Record) (p : Past) → is Act (r ∷ p) ≡ true → (cke p ≡ true) × (r .cke ≡ true)
@@ -145,7 +142,7 @@ module _ (C : Chip) where
   busy-unrefreshed b small [] apart h u l busy = never refl busy
   busy-unrefreshed b small (r ∷ p) apart h u l busy = ⊎-elim
       (λ (y : actOn b (r ∷ p) ≡ true).
-      let act = both-first (is Act (r ∷ p)) (on b (r ∷ p)) y in
+      let act = both (is Act (r ∷ p)) (on b (r ∷ p)) y .0 in
       let high = act-high r p act in
       rw y (began r p (apart .0) (is-other Act Ref (r ∷ p) (λ z. omega arith) act) (high-awake p (high .0)) (high-awake (r ∷ p) (high .1))))
       (λ (n : actOn b (r ∷ p) ≡ false).
