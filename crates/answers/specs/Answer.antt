@@ -2,7 +2,7 @@
 -- Assumes nothing.
 use Prim.Native.Nat.{ℕ, zero, suc, _/_, _%_}
 use mathlib.Core.Bool.{cond}
-use mathlib.Core.List.{List, [], _∷_}
+use mathlib.Core.List.{List, [], _∷_, _++_}
 use lib.Dec.{ltb}
 use lib.ListN.{length}
 use Rattle.laws.specs.Lent.{Wrote}
@@ -39,12 +39,16 @@ verdictBytes v =
     bytes1 (v .outcome) (bytes1 (v .rule) (bytes3 (v .number) (bytes3 (v .partner) (bytes6 (v .edge) (bytes3 (v .needed) (bytes3 (v .found) []))))))
 
 -- | 9 | lent buffer too short |
-abbrev pub roomFor20 : (room : ℕ) → ℕ
-roomFor20 room = cond (ltb room 20) 9 0
+abbrev pub roomFor : (bytes room : ℕ) → ℕ
+roomFor bytes room = cond (ltb room bytes) 9 0
 
 -- "A verdict is written in 20 bytes .. Later bytes of the buffer keep their values"
 abbrev pub Reported : Verdict → (before : List ℕ) (r : ℕ) (after : List ℕ) → Type 0
-Reported v before r after = Wrote (roomFor20 (length before)) (verdictBytes v) before r after
+Reported v before r after = Wrote (roomFor 20 (length before)) (verdictBytes v) before r after
+
+-- 02, Q-7: "one verdict per rank (40 bytes, first rank first)"
+abbrev pub ReportedBoth : (first second : Verdict) (before : List ℕ) (r : ℕ) (after : List ℕ) → Type 0
+ReportedBoth v w before r after = Wrote (roomFor 40 (length before)) (verdictBytes v ++ verdictBytes w) before r after
 
 -- "A bank is idle, open or closing, with row (A15..A0) and ACT edge unless idle": 0, 1, 2 for the three
 abbrev pub shownOf : Bank → Shown

@@ -13,6 +13,6 @@ use Rattle.answers.specs.Answer.{verdictBytes, shownOf}
 abbrev pub Show : (b : Bank) (r : Shown) → Type 0
 Show b r = r ≡ shownOf b
 
--- `verdict_bytes`; that of `put_verdict` is `Reported` of `Answer.antt`
+-- `verdict_bytes`; those of `put_verdict` and `put_verdicts` are `Reported` and `ReportedBoth` of `Answer.antt`
 abbrev pub VerdictBytes : (v : Verdict) (r : List ℕ) → Type 0
 VerdictBytes v r = r ≡ verdictBytes v

@@ -2,6 +2,7 @@
 mod report;
 
 pub use report::put_verdict;
+pub use report::put_verdicts;
 pub use report::verdict_bytes;
 
 // What a record or an edge breaks: the rule, the number of the earlier record (0: none), the clocks needed and found; found is the refused bit

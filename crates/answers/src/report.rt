@@ -1,6 +1,6 @@
-// The 20 bytes of a verdict.
+// The 20 bytes of a verdict, and the 40 of two.
 use crate::Verdict;
-ghost use Rattle.answers.specs.Answer.{Reported};
+ghost use Rattle.answers.specs.Answer.{Reported, ReportedBoth};
 ghost use Rattle.answers.specs.Contracts.{VerdictBytes};
 
 // Check 9; then the 20 bytes into the lent slice. Later bytes keep their values; a refusal writes nothing.
@@ -12,6 +12,20 @@ pub fn put_verdict(v: Verdict, out: &mut [u8]) -> u32
     }
     let twenty = verdict_bytes(v);
     bytes::copy(&twenty, out);
+    0
+}
+
+// The same of two ranks' verdicts, the first rank's first: 40 bytes.
+pub fn put_verdicts(first: Verdict, second: Verdict, out: &mut [u8]) -> u32
+    ensures { λ r. ⌜ ReportedBoth first second (now (out .entry)) r (now (out .exit)) ⌝ }
+{
+    if out.len() < 40 {
+        return 9;
+    }
+    let one = verdict_bytes(first);
+    let two = verdict_bytes(second);
+    bytes::copy(&one, out);
+    bytes::copy(&two, &mut out[20..]);
     0
 }
 

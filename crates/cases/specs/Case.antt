@@ -2,17 +2,18 @@
 -- Assumes nothing.
 use Prim.Native.Nat.{ℕ}
 use mathlib.Core.Path.{_≡_}
-use mathlib.Core.Bool.{Bool}
+use mathlib.Core.Bool.{Bool, false}
 use mathlib.Core.List.{List, [], _∷_}
 use Prim.Native.String.{String}
 use Rattle.header.specs.declared.Header.{Header}
 use Rattle.header.specs.declared.Parsed.the-variants.{Taken}
-use Rattle.header.specs.Bytes.{parsedOf}
+use Rattle.header.specs.Bytes.{editionFor, parsedOf}
 use Rattle.header.specs.Counts.{tRCD, tRP, tRC, tRAS, tRRD, tFAW, tRTP, tWR, tRFC, tMOD, tXS, mostRAS, tREFI}
 use Rattle.registers.specs.Allowed.{allowed}
 use Rattle.registers.specs.Reading.{decodedOf, answerOf}
 use Rattle.bursts.specs.Burst.{orderOf}
 use Rattle.answers.specs.declared.Verdict.{Verdict}
+use Rattle.wide.specs.Moved.{widen}
 use Rattle.sections.specs.Recording.{wholeRefusal, wholeVerdict}
 use Rattle.lines.specs.Line.{text}
 use Rattle.program.specs.Program.{programLine}
@@ -40,6 +41,8 @@ pub data Case : Type 0 where
   judged : (recording : List ℕ) (end : ℕ) (verdict : Verdict) → Case
   -- the line that the program prints of it
   printed : (recording : List ℕ) (line : String) → Case
+  -- a record of edition 1, and what it becomes in edition 2
+  widens : (bytes moved : List ℕ) → Case
 
 abbrev pub Holds : Case → Type 0
 Holds (counts h clocks) = countsOf h ≡ clocks
@@ -47,9 +50,10 @@ Holds (limit h n) = mostRAS h .clocks ≡ n
 Holds (burst length start kind direction words) = orderOf length start kind direction ≡ words
 Holds (reads h number code fields) = answerOf (decodedOf h number code) ≡ record { number = 0; bytes = fields }
 Holds (permits h number code answer) = allowed h number code ≡ answer
-Holds (opens bytes h) = parsedOf bytes ≡ Taken h
-Holds (judged bs end verdict) = (wholeRefusal bs end ≡ 0) × (wholeVerdict bs end ≡ verdict)
+Holds (opens bytes h) = parsedOf (editionFor bytes) bytes ≡ Taken h
+Holds (judged bs end verdict) = (wholeRefusal bs end ≡ 0) × (wholeVerdict false bs end ≡ verdict)
 Holds (printed bs line) = programLine bs ≡ text line
+Holds (widens bs moved) = widen bs ≡ moved
 
 -- every case of a table holds
 abbrev pub AllHold : List Case → Type 0

@@ -1,4 +1,4 @@
--- 01, "Examples (P: proved)": P1 to P12; and of 02, Q-2, what no recording can show, and the least that breaks its rule.
+-- 01, "Examples (P: proved)": P1 to P12; of 02, Q-2, what no recording can show, and the least that breaks its rule; and the record of Q-7.
 -- Assumes nothing.
 use Prim.Native.Nat.{ℕ}
 use mathlib.Core.Bool.{true, false}
@@ -6,7 +6,7 @@ use mathlib.Core.List.{List, [], _∷_}
 use Rattle.header.specs.declared.Header.{Header}
 use Rattle.answers.specs.declared.Verdict.{Verdict}
 use Rattle.answers.specs.Answer.{bytes6}
-use Rattle.cases.specs.Case.{Case, counts, limit, burst, reads, permits, opens, judged, printed}
+use Rattle.cases.specs.Case.{Case, counts, limit, burst, reads, permits, opens, judged, printed, widens}
 
 -- "P1 bin 1, 1500, 1 Gb x8"
 abbrev pub headerP1 : Header
@@ -109,4 +109,6 @@ table =
     -- Q-2: "broken one edge past nine times tREFI's clocks", from the last REF; from edge 0 25 is broken one edge before
     ∷ judged (recorded bytesQ2) 46801 (clean 1 46801)
     ∷ judged (recorded bytesQ2) 46802 (broken 31 0 1 46802 46800 46801)
+    -- Q-7: "Record 00000C9B0123 becomes 00000CD360246000"
+    ∷ widens (bytes6 0x00000C9B0123 []) (0x00 ∷ 0x00 ∷ 0x0C ∷ 0xD3 ∷ 0x60 ∷ 0x24 ∷ 0x60 ∷ 0x00 ∷ [])
     ∷ []

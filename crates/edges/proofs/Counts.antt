@@ -11,7 +11,7 @@ use Rattle.records.specs.declared.Record.{Record}
 use Rattle.records.specs.Record.{records, recordAt, hasZero}
 use Rattle.chip.specs.declared.Chip.{Chip}
 use Rattle.running.specs.Ranges.{limit, lastEdge}
-use Rattle.running.proofs.Sections.{at-step, at-end, step-at}
+use Rattle.records.proofs.Records.{at-step, at-end, step-at}
 use Rattle.edges.specs.declared.Rank.{Rank}
 use Rattle.edges.specs.declared.Folded.{Folded}
 use Rattle.edges.specs.Step.{stoppedOf, stepOf}

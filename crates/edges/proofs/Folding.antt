@@ -15,7 +15,7 @@ use Rattle.records.specs.declared.Record.{Record}
 use Rattle.records.specs.Record.{records, recordAt, hasZero}
 use Rattle.chip.specs.declared.Chip.{Chip}
 use Rattle.running.specs.Ranges.{limit, lastEdge, Small}
-use Rattle.running.proofs.Sections.{at-step, at-end}
+use Rattle.records.proofs.Records.{at-step, at-end}
 use Rattle.edges.specs.declared.Rank.{Rank}
 use Rattle.edges.specs.declared.Folded.{Folded}
 use Rattle.edges.specs.Step.{stepOf, foldOf}

@@ -14,7 +14,7 @@ use Rattle.records.specs.Record.{records, recordAt, hasZero}
 use Rattle.chip.specs.declared.Chip.{Chip}
 use Rattle.running.specs.declared.Asks.{Asks}
 use Rattle.running.specs.Ranges.{limit, lastEdge}
-use Rattle.running.proofs.Sections.{at-step, step-at}
+use Rattle.records.proofs.Records.{at-step, step-at}
 use Rattle.edges.specs.declared.Banks.{Banks}
 use Rattle.edges.specs.declared.Acts.{Acts}
 use Rattle.edges.specs.declared.Floor.{Floor}

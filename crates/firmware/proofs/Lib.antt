@@ -1,3 +1,4 @@
 pub mod Wholes
 pub mod Corollaries
 pub mod Meaning
+pub mod Moved

@@ -1,6 +1,6 @@
 -- The six header bytes and the refusals of opening: 01, "The recording".
 -- Assumes nothing.
-use Prim.Native.Nat.{ℕ}
+use Prim.Native.Nat.{ℕ, _/_}
 use mathlib.Core.Bool.{Bool, cond, _&&_, _||_}
 use mathlib.Core.List.{List}
 use lib.ListN.{length, getD}
@@ -43,31 +43,36 @@ zeroB w = field w 24 24
 abbrev pub headerOf : ℕ → Header
 headerOf w = record { bin = bin w; dense = dense w; wide = wide w; hot = hot w; period = record { ps = period w } }
 
--- checks 2, 3, 4, in this order; 0: none
--- | 2 | edition is not 1 |
+-- The edition that is asked for: register reading asks 1, a move the one that it starts from, and judging 2 "when the first four bits are 2",
+-- also of a single byte, else 1.
+unfoldable pub editionFor : List ℕ → ℕ
+editionFor bs = cond (eqb (getD bs 0 0 / 16) 2) 2 1
+
+-- checks 2, 3, 4, in this order, where the edition e is asked for; 0: none
+-- | 2 | edition is not 1 |, or not the one that is asked for
 -- | 3 | a zero field is not zero |
 -- | 4 | period under the bin's least, or over 3300 |
-unfoldable pub fieldsRefusal : ℕ → ℕ
-fieldsRefusal w =
-    cond (eqb (edition w) 1)
+unfoldable pub fieldsRefusal : (e word : ℕ) → ℕ
+fieldsRefusal e w =
+    cond (eqb (edition w) e)
     (cond (eqb (zeroA w) 0 && eqb (zeroB w) 0)
     (cond (ltb (period w) (binOf (bin w) .least) || ltb 3300 (period w)) 4 0)
     3)
     2
 
 -- | 1 | header is not 6 bytes |
-unfoldable pub headerRefusal : List ℕ → ℕ
-headerRefusal bs = cond (eqb (length bs) 6) (fieldsRefusal (headerWord bs)) 1
+unfoldable pub headerRefusal : (e : ℕ) → List ℕ → ℕ
+headerRefusal e bs = cond (eqb (length bs) 6) (fieldsRefusal e (headerWord bs)) 1
 
 -- the header, or its refusal: 01's number, and the values where it is 0
 abbrev pub answer : (number : ℕ) → Header → Parsed
 answer n h = cond (eqb n 0) (Taken h) (Refused n)
 
-unfoldable pub fieldsOf : ℕ → Parsed
-fieldsOf w = answer (fieldsRefusal w) (headerOf w)
+unfoldable pub fieldsOf : (e word : ℕ) → Parsed
+fieldsOf e w = answer (fieldsRefusal e w) (headerOf w)
 
-unfoldable pub parsedOf : List ℕ → Parsed
-parsedOf bs = answer (headerRefusal bs) (headerOf (headerWord bs))
+unfoldable pub parsedOf : (e : ℕ) → List ℕ → Parsed
+parsedOf e bs = answer (headerRefusal e bs) (headerOf (headerWord bs))
 
 -- 01's number for each of the enum's cases
 abbrev pub numberOf : Parsed → ℕ

@@ -3,6 +3,7 @@ mod bins;
 mod counts;
 mod opening;
 
+pub use opening::edition_for;
 pub use opening::parse;
 use units::Ps;
 

@@ -5,15 +5,32 @@ use crate::bins::least;
 use units::Ps;
 ghost use mathlib.Core.Path.{_≡_};
 ghost use Rattle.header.specs.Bytes.{headerOf, fieldsOf};
-ghost use Rattle.header.specs.Contracts.{Parse};
+ghost use Rattle.header.specs.Contracts.{Parse, EditionFor};
 
-pub fn parse(bytes: &[u8]) -> Parsed
-    ensures { λ r. ⌜ Parse (now (bytes .entry)) r ⌝ }
+// edition: the one that is asked for.
+pub fn parse(bytes: &[u8], edition: u64) -> Parsed
+    ensures { λ r. ⌜ Parse (now (bytes .entry)) edition r ⌝ }
 {
     if bytes.len() != 6 {
         return Parsed::Refused(1);
     }
-    fields(bits::word(bytes[0], bytes[1], bytes[2], bytes[3], bytes[4], bytes[5]))
+    fields(
+        bits::word(bytes[0], bytes[1], bytes[2], bytes[3], bytes[4], bytes[5]),
+        edition,
+    )
+}
+
+// The edition that judging asks for: 2 where the first four bits are 2, else 1.
+pub fn edition_for(bytes: &[u8]) -> u64
+    ensures { λ r. ⌜ EditionFor (now (bytes .entry)) r ⌝ }
+{
+    if bytes.len() == 0 {
+        return 1;
+    }
+    if bytes[0] / 16 == 2 {
+        return 2;
+    }
+    1
 }
 
 fn header(w: u64) -> Header
@@ -30,12 +47,12 @@ fn header(w: u64) -> Header
     }
 }
 
-fn fields(w: u64) -> Parsed
-    ensures { λ r. ⌜ r ≡ fieldsOf w ⌝ }
+fn fields(w: u64, edition: u64) -> Parsed
+    ensures { λ r. ⌜ r ≡ fieldsOf edition w ⌝ }
 {
     let bin = (w / 4398046511104 % 4) as u8;
     let period = w / 16777216 % 4096;
-    if w / 17592186044416 % 16 != 1 {
+    if w / 17592186044416 % 16 != edition {
         return Parsed::Refused(2);
     }
     if w / 68719476736 % 8 != 0 {

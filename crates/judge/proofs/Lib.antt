@@ -1,2 +1,5 @@
+pub mod Folds
+pub mod Pairs
 pub mod Ranging
+pub mod Sections
 pub mod Answers

@@ -1,3 +1,4 @@
 pub mod Ranges
 pub mod Calls
+pub mod Pairs
 pub mod Contracts

@@ -1,11 +1,12 @@
 -- What follows for a caller from `Wrote`, and how a function shows it.
 -- Assumes nothing.
-use Prim.Native.Nat.{ℕ}
+use Prim.Native.Nat.{ℕ, _+_, _-_, _≤_}
+use native.Mathlib.Omega.{arith}
 use mathlib.Core.Bool.{Bool, true, false, cond}
-use mathlib.Core.List.{List, _++_}
+use mathlib.Core.List.{List, _++_, append-assoc, append-nil}
 use mathlib.Core.Path.{_≡_, refl, ap, _∙_}
-use lib.ListN.{length, take, drop}
-use lib.Seq.{drop-append-seam, take-length}
+use lib.ListN.{length, take, drop, length-drop, drop-of-length-le}
+use lib.Seq.{drop-append-seam, drop-drop, take-all, take-length}
 use lib.Dec.{eqb}
 use borrow.Author.Tests.{eq-eqb, ne-eqb}
 use Rattle.laws.specs.Lent.{written, Wrote}
@@ -45,3 +46,19 @@ pub same-answer :
     → (r ≡ r′) × (after ≡ after′)
 same-answer {n} {r} {r′} {words} {before} {after} {after′} one other =
     (one-answer n r r′ (one .result) (other .result), one-answer (written n words before) after after′ (one .out) (other .out))
+
+-- a text copied into the part of the lent bytes from `at` on
+pub pasted : (text before : List ℕ) (at : ℕ) {part : List ℕ}
+    → part ≡ take (length text) text ++ drop (length text) (take (length before - at) (drop at before))
+    → take at before ++ (part ++ drop (length before - at) (drop at before)) ≡ take at before ++ text ++ drop (at + length text) before
+pasted text before at {part} is =
+    rw (copy, drop-of-length-le behind all, append-nil, drop-drop (length text) at before, append-assoc)
+  where
+    behind : List ℕ
+    behind = drop at before
+
+    all : length behind ≤ length before - at
+    all = omega (arith, length-drop at before)
+
+    copy : part ≡ text ++ drop (length text) behind
+    copy = is ∙ rw (take-length, take-all (length before - at) behind all)

@@ -4,3 +4,4 @@ pub mod Both
 pub mod Table
 pub mod Lent
 pub mod Eight
+pub mod Cuts

@@ -2,3 +2,4 @@ pub mod Lent
 pub mod Eight
 pub mod Among
 pub mod Any
+pub mod Cuts

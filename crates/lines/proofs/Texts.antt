@@ -4,11 +4,11 @@ use Prim.Native.Nat.{ℕ, _+_, _-_, _≤_}
 use native.Mathlib.Nat.{zero-add}
 use native.Mathlib.Omega.{arith}
 use mathlib.Core.Path.{_≡_, sym, ap, _∙_}
-use mathlib.Core.List.{List, _++_, append-assoc, append-nil}
-use lib.ListN.{length, take, drop, length-append, length-drop}
-use lib.Seq.{length-take-le, take-all, take-length, take-append-seam, take-at, drop-append-add, drop-drop}
-use lib.ListN.{drop-of-length-le}
+use mathlib.Core.List.{List, _++_, append-assoc}
+use lib.ListN.{length, take, drop, length-append}
+use lib.Seq.{length-take-le, take-append-seam, take-at, drop-append-add, drop-drop}
 use Rattle.io.specs.Counts.{Counts}
+use Rattle.laws.proofs.Lent.{pasted}
 use Rattle.lines.specs.Line.{Printed}
 use Rattle.lines.specs.Parts.{Put}
 
@@ -16,19 +16,7 @@ use Rattle.lines.specs.Parts.{Put}
 pub copied : (text before : List ℕ) (at : ℕ) {n : ℕ} {part : List ℕ} → n ≡ length text → at ≤ length before
     → part ≡ take (length text) text ++ drop (length text) (take (length before - at) (drop at before))
     → Put text at before (at + n) (take at before ++ (part ++ drop (length before - at) (drop at before)))
-copied text before at {n} {part} count fits is = record { place = ap (λ (k : ℕ). at + k) count; out = whole }
-  where
-    behind : List ℕ
-    behind = drop at before
-
-    all : length behind ≤ length before - at
-    all = omega (arith, length-drop at before)
-
-    copy : part ≡ text ++ drop (length text) behind
-    copy = is ∙ rw (take-length, take-all (length before - at) behind all)
-
-    whole : take at before ++ (part ++ drop (length before - at) behind) ≡ take at before ++ text ++ drop (at + length text) before
-    whole = rw (copy, drop-of-length-le behind all, append-nil, drop-drop (length text) at before, append-assoc)
+copied text before at {n} {part} count fits is = record { place = ap (λ (k : ℕ). at + k) count; out = pasted text before at is }
 
 module _ {xs ys before middle after : List ℕ} {at r s : ℕ} where
   -- one text, and the next where it ends

@@ -1,8 +1,9 @@
 // Tells what is known of one lot, `name value` a line: the files that its arguments name, in order, judged as one recording. The first begins
 // with the six header bytes, and each ends between records. With `--list FROM TO EDGE` before them it tells the records of these numbers
-// instead, and how many stand before the edge.
+// instead, and how many stand before the edge: in edition 2 as the first rank sees them, with `--second FROM TO EDGE` as the second does.
 // However the records are cut into files, the verdict and the counts are those of the uncut recording (sections/proofs, Sections and Lots).
 // A file that cannot be judged ends it with the reason. A program has no exit status to set.
+mod eights;
 mod find;
 mod reading;
 mod text;
@@ -23,31 +24,36 @@ struct Place {
     stopped: bool,
 }
 
-// What the files so far have led to. header: the six bytes of the lot's header.
+// What the files so far have led to. header: the six bytes of the lot's header. two: of the second rank; in edition 1 nothing is counted there.
 struct Lot {
     place: Place,
     header: [u8; 6],
     state: State,
-    tally: Tally,
+    one: Tally,
+    two: Tally,
 }
 
 fn main() {
     let end = os::arg_count();
-    if asks_for_a_list() {
-        find::list(number_at(2), number_at(3), number_at(4), 5, end);
+    if asks_for(b"--list") {
+        find::list(number_at(2), number_at(3), number_at(4), false, end);
+        return;
+    }
+    if asks_for(b"--second") {
+        find::list(number_at(2), number_at(3), number_at(4), true, end);
         return;
     }
     if end <= 1 {
-        text::put(b"usage: lot [--list FROM TO EDGE] FILE..\n");
+        text::put(b"usage: lot [--list FROM TO EDGE | --second FROM TO EDGE] FILE..\n");
         return;
     }
     answer(judged(end));
 }
 
-fn asks_for_a_list() -> bool {
-    let mut word = [0u8; 7];
+fn asks_for(what: &[u8]) -> bool {
+    let mut word = [0u8; 9];
     let n = os::arg(1, &mut word);
-    check::same(&word[..n], b"--list")
+    check::same(&word[..n], what)
 }
 
 // The number that an argument spells.
@@ -94,13 +100,22 @@ fn answer(lot: Lot) {
         return;
     }
     let state = lot.state;
-    let c = state.close(state.rank.edge);
+    let c = state.close(state.one.edge);
     if c.refused != 0 {
         values::refusal(1, 0, c.refused);
         return;
     }
-    let e = c.end;
-    let tally = lot.tally;
     let header = lot.header;
-    values::end(tally, state.rank.count, e, header);
+    let e = c.end;
+    let one = lot.one;
+    if state.edition != 2 {
+        values::end(one, state.one.count, e, header);
+        return;
+    }
+    text::value(b"rank", 1);
+    values::end(one, state.one.count, e, header);
+    text::value(b"rank", 2);
+    let second = c.second;
+    let two = lot.two;
+    values::end(two, state.two.count, second, header);
 }

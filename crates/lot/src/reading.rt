@@ -1,9 +1,11 @@
 // The first reading: each file's bytes, in sections of 6,000, through the judge and the tally.
 use crate::Lot;
 use crate::Place;
+use crate::eights;
 use crate::values;
 use header::Header;
 use judge::State;
+use tally::Tallied;
 use tally::Tally;
 
 // A section's bytes.
@@ -24,7 +26,7 @@ pub(crate) fn later(lot: Lot, i: usize) -> Lot {
         return lot;
     }
     let fd = opened(i);
-    let place = begun(i, fd, lot.state.rank.count, lot.state.rank.edge);
+    let place = begun(i, fd, lot.state.one.count, lot.state.one.edge);
     let end = sections(moved(lot, place), fd);
     libc::close(fd);
     end
@@ -65,13 +67,14 @@ fn headed(fd: i32) -> Lot {
     let o = State::open(&header[..k]);
     let state = o.state;
     let place = behind_header(begun(1, fd, 0, 0), fd, k, o.refused);
-    part(place.stopped, state.header);
+    part(place.stopped, state.edition, state.header);
     let tally = Tally::start();
     Lot {
         place: place,
         header: header,
         state: state,
-        tally: tally,
+        one: tally,
+        two: tally,
     }
 }
 
@@ -90,10 +93,14 @@ fn behind_header(p: Place, fd: i32, k: usize, refused: u64) -> Place {
     n
 }
 
-fn part(stopped: bool, h: Header) {
-    if !stopped {
-        values::part(h);
+fn part(stopped: bool, edition: u64, h: Header) {
+    if stopped {
+        return;
     }
+    if edition == 2 {
+        values::edition(edition);
+    }
+    values::part(h);
 }
 
 // The place behind k bytes more; what is not full is to be the file's end.
@@ -171,32 +178,46 @@ fn begins_anew(p: Place, bytes: &[u8]) -> bool {
 fn taken(lot: Lot, p: Place, bytes: &[u8]) -> Lot {
     let state = lot.state;
     let t = state.section(bytes);
-    let tally = lot.tally;
-    let u = tally.section(bytes);
-    let place = checked(
-        p,
-        lot.place.at,
-        bytes,
-        t.refused,
-        u.refused,
-        state.rank.count,
-    );
+    let one = counted(lot.one, state.edition, false, bytes);
+    let two = counted(lot.two, state.edition, true, bytes);
+    let other = worse(one.refused, two.refused);
+    let place = checked(p, lot.place.at, bytes, t.refused, other, state);
     let next = t.state;
-    tell(place, next.rank.count, next.rank.edge);
-    let counted = u.tally;
+    tell(place, next.one.count, next.one.edge);
     let header = lot.header;
+    let first = one.tally;
+    let second = two.tally;
     Lot {
         place: place,
         header: header,
         state: next,
-        tally: counted,
+        one: first,
+        two: second,
     }
 }
 
+// The tally of what a rank sees: in edition 1 the second sees nothing.
+fn counted(t: Tally, edition: u64, second: bool, bytes: &[u8]) -> Tallied {
+    if edition == 2 {
+        return eights::counted(t, second, bytes);
+    }
+    if second {
+        return t.section(&bytes[..0]);
+    }
+    t.section(bytes)
+}
+
+fn worse(one: u64, two: u64) -> u64 {
+    if one != 0 {
+        return one;
+    }
+    two
+}
+
 // The place behind a section that began at the byte `at`, or stopped where the judge or the tally refused it.
-fn checked(p: Place, at: u64, bytes: &[u8], refused: u64, other: u64, count: u32) -> Place {
+fn checked(p: Place, at: u64, bytes: &[u8], refused: u64, other: u64, s: State) -> Place {
     if refused != 0 {
-        let place = std::num::wrapping_add_u64(at, tally::refused_at(refused, bytes, count) as u64);
+        let place = std::num::wrapping_add_u64(at, refused_at(refused, bytes, s) as u64);
         values::refusal(p.file as u64, place, refused);
         return stopped(p);
     }
@@ -205,6 +226,13 @@ fn checked(p: Place, at: u64, bytes: &[u8], refused: u64, other: u64, count: u32
         return stopped(p);
     }
     p
+}
+
+fn refused_at(refused: u64, bytes: &[u8], s: State) -> usize {
+    if s.edition == 2 {
+        return eights::refused_at(refused, bytes, s.one.count);
+    }
+    tally::refused_at(refused, bytes, s.one.count)
 }
 
 // A line for a file that was read to its end.

@@ -20,6 +20,10 @@ use tally::Tally;
 // The kind of a power-down entry.
 const ENTRY: usize = 17;
 
+pub(crate) fn edition(n: u64) {
+    value(b"edition", n);
+}
+
 pub(crate) fn part(h: Header) {
     value(b"bin", h.bin as u64);
     value(b"density_gb", if h.dense { 2 } else { 1 });
@@ -177,18 +181,17 @@ fn verdict(v: Verdict) {
     value(b"found", v.found);
 }
 
-// One record of a list: the file that it stands in, its first byte there, and its six bytes as one number.
-pub(crate) fn listed(p: Placed) {
+// One record of a list: the file that it stands in, and its first byte there.
+pub(crate) fn listed(p: Placed, at: u64) {
     let f = p.found;
     value(b"list", f.reached.number);
     value(b"list_file", p.file);
-    value(b"list_byte", p.at);
+    value(b"list_byte", at);
     value(b"list_edge", f.reached.edge);
     pins(f);
     let r = f.fields;
     value(b"list_bank", r.bank);
     hex(b"list_address ", r.a as u64, 4);
-    hex(b"list_bytes ", p.word, 12);
 }
 
 fn pins(f: Found) {
@@ -238,12 +241,19 @@ fn register(header: [u8; 6], n: u32, g: Register) {
     say(b"mr", n as u64);
     hex(b" ", g.code as u64, 4);
     let mut six = [0u8; 6];
-    if registers::read(&header, n, g.code, &mut six) == 0 {
+    if registers::read(&of_edition_1(header), n, g.code, &mut six) == 0 {
         say(b"mr", n as u64);
         put(b"_reading");
         reading(six);
         put(b"\n");
     }
+}
+
+// Register reading takes a header of edition 1; the part is the same.
+fn of_edition_1(header: [u8; 6]) -> [u8; 6] {
+    let mut h = header;
+    h[0] = header[0] % 16 + 16;
+    h
 }
 
 fn reading(six: [u8; 6]) {

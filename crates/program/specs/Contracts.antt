@@ -7,7 +7,7 @@ use mathlib.Core.Path.{_≡_}
 use Rattle.judge.specs.declared.State.{State}
 use Rattle.lines.specs.Contracts as lines
 use Rattle.program.specs.declared.Run.{Run}
-use Rattle.program.specs.Answer.{answerLine}
+use Rattle.program.specs.Answer.{answerLine, secondLine}
 use Rattle.program.specs.Program.{openedRun, nextRun, ranOver}
 
 -- `begun`
@@ -25,3 +25,7 @@ Over start block r = r ≡ ranOver 10 start block
 -- `line`
 abbrev pub Line : (run : Run) (before : List ℕ) (r : ℕ) (after : List ℕ) → Type 0
 Line run before r after = lines.Line (answerLine (run .refused) (run .state)) before r after
+
+-- `second_line`
+abbrev pub SecondLine : (run : Run) (before : List ℕ) (r : ℕ) (after : List ℕ) → Type 0
+SecondLine run before r after = lines.Line (secondLine (run .refused) (run .state)) before r after

@@ -1,5 +1,6 @@
 -- The program as a function of what standard input holds: 01, P8, "A program reads a recording from standard input in sections of 6,000
--- bytes, the last perhaps shorter, stops at the first refusal, and closes at the last record's edge. It prints one line".
+-- bytes, the last perhaps shorter, stops at the first refusal, and closes at the last record's edge. It prints one line"; of edition 2 one a
+-- rank.
 -- Assumes nothing.
 use Prim.Native.Nat.{ℕ, zero, suc, _+_}
 use mathlib.Core.Bool.{cond, _&&_}
@@ -9,7 +10,7 @@ use lib.ListN.{length, take, drop}
 use Rattle.judge.specs.declared.State.{State}
 use Rattle.judge.specs.Calls.{openOf, sectionOf}
 use Rattle.program.specs.declared.Run.{Run}
-use Rattle.program.specs.Answer.{answerLine}
+use Rattle.program.specs.Answer.{answerLine, secondLine}
 
 -- after the header's bytes
 abbrev pub openedRun : List ℕ → Run
@@ -35,3 +36,6 @@ programRun input = ranOver (length input + 1) (openedRun (take 6 input)) (drop 6
 
 unfoldable pub programLine : List ℕ → List ℕ
 programLine input = answerLine (programRun input .refused) (programRun input .state)
+
+unfoldable pub programSecond : List ℕ → List ℕ
+programSecond input = secondLine (programRun input .refused) (programRun input .state)

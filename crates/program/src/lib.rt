@@ -1,10 +1,10 @@
-// What the program makes of the bytes that it reads (01, P8): the header's, a section's, those of a block of sections, and the line
-// that it prints.
+// What the program makes of the bytes that it reads (01, P8): the header's, a section's, those of a block of sections, and the lines
+// that it prints, one a rank.
 use judge::State;
 use lines::ROOM;
 ghost use Prim.Native.Nat.{min};
 ghost use mathlib.Core.Path.{_≡_};
-ghost use Rattle.program.specs.Contracts.{Begun, Next, Over, Line};
+ghost use Rattle.program.specs.Contracts.{Begun, Next, Over, Line, SecondLine};
 
 // A section's bytes.
 pub const SECTION: usize = 6000;
@@ -74,9 +74,24 @@ pub fn line(run: Run, text: &mut [u8; ROOM]) -> usize
         return lines::refusal_line(run.refused, text);
     }
     let state = run.state;
-    let c = state.close(state.rank.edge);
+    let c = state.close(state.one.edge);
     if c.refused != 0 {
         return lines::refusal_line(c.refused, text);
     }
     lines::verdict_line(c.end.verdict, text)
+}
+
+// The same of the second rank's line: no byte in edition 1, and none behind a refusal.
+pub fn second_line(run: Run, text: &mut [u8; ROOM]) -> usize
+    ensures { λ r. ⌜ SecondLine run (now (text .entry)) r (now (text .exit)) ⌝ }
+{
+    if (run.refused != 0) | (run.state.edition != 2) {
+        return 0;
+    }
+    let state = run.state;
+    let c = state.close(state.one.edge);
+    if c.refused != 0 {
+        return 0;
+    }
+    lines::verdict_line(c.second.verdict, text)
 }

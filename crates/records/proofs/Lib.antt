@@ -1,1 +1,3 @@
+pub mod Pieces
+pub mod Records
 pub mod Answers

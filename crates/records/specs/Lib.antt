@@ -1,3 +1,4 @@
+pub mod Pieces
 pub mod Record
 pub mod Command
 pub mod Contracts

@@ -45,18 +45,18 @@ module _ (hd : List ℕ) (n c : ℕ) (before : List ℕ) where
 
   module _ (long : 6 ≤ length before) where
     -- room enough: the header decides
-    long-is : readOf hd n c (length before) ≡ readUnder (parsedOf hd) n c
+    long-is : readOf hd n c (length before) ≡ readUnder (parsedOf 1 hd) n c
     unfolding readOf
     long-is = rw (le-ltb _ _ long) refl
 
-    by : (x : Parsed) (r : ℕ) (after : List ℕ) → x ≡ parsedOf hd → Gives (readUnder x n c) before r after → Read hd n c before r after
+    by : (x : Parsed) (r : ℕ) (after : List ℕ) → x ≡ parsedOf 1 hd → Gives (readUnder x n c) before r after → Read hd n c before r after
     by x r after is w = subst (λ a. Gives a before r after) (sym long-is) (subst (λ p. Gives (readUnder p n c) before r after) is w)
 
-    pub taken : (p : Parsed) (h : Header) (d : Decoded) {r : ℕ} {after : List ℕ} → p ≡ parsedOf hd → p ≡ Taken h → d ≡ decodedOf h n c
+    pub taken : (p : Parsed) (h : Header) (d : Decoded) {r : ℕ} {after : List ℕ} → p ≡ parsedOf 1 hd → p ≡ Taken h → d ≡ decodedOf h n c
         → Gives (answerOf d) before r after → Read hd n c before r after
     taken p h d {r} {after} is t e w = by (Taken h) r after (sym t ∙ is) (subst (λ x. Gives (answerOf x) before r after) e w)
 
-    pub refused : (p : Parsed) (k : ℕ) → p ≡ parsedOf hd → p ≡ Refused k → Read hd n c before k before
+    pub refused : (p : Parsed) (k : ℕ) → p ≡ parsedOf 1 hd → p ≡ Refused k → Read hd n c before k before
     refused p k is t = by (Refused k) k before (sym t ∙ is) (nothing k before)
 
 -- ── The bytes behind the six ────────────────────────────────────────────────────────────────
@@ -72,12 +72,12 @@ under-six-or-none (Refused k) n c = inr refl
 
 read-six-or-none : (hd : List ℕ) (n c room : ℕ) → (length (readOf hd n c room .bytes) ≡ 6) ⊎ (readOf hd n c room .bytes ≡ [])
 unfolding readOf
-read-six-or-none hd n c room = go (ltb room 6) (under-six-or-none (parsedOf hd) n c)
+read-six-or-none hd n c room = go (ltb room 6) (under-six-or-none (parsedOf 1 hd) n c)
   where
     one : Bool → Answer
-    one x = cond x (refusal 9) (readUnder (parsedOf hd) n c)
+    one x = cond x (refusal 9) (readUnder (parsedOf 1 hd) n c)
 
-    go : (x : Bool) → (length (readUnder (parsedOf hd) n c .bytes) ≡ 6) ⊎ (readUnder (parsedOf hd) n c .bytes ≡ []) → (length (one x .bytes) ≡ 6) ⊎ (one x .bytes ≡ [])
+    go : (x : Bool) → (length (readUnder (parsedOf 1 hd) n c .bytes) ≡ 6) ⊎ (readUnder (parsedOf 1 hd) n c .bytes ≡ []) → (length (one x .bytes) ≡ 6) ⊎ (one x .bytes ≡ [])
     go true w = inr refl
     go false w = w
 

@@ -55,4 +55,4 @@ readUnder (Refused k) n c = refusal k
 
 -- check 9 before them all
 unfoldable pub readOf : (header : List ℕ) → (number code room : ℕ) → Answer
-readOf hd n c room = cond (ltb room 6) (refusal 9) (readUnder (parsedOf hd) n c)
+readOf hd n c room = cond (ltb room 6) (refusal 9) (readUnder (parsedOf 1 hd) n c)

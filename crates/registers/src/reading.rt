@@ -14,7 +14,7 @@ pub fn read(header: &[u8], number: u32, code: u16, out: &mut [u8]) -> u32
     if out.len() < 6 {
         return 9;
     }
-    let parsed = header::parse(header);
+    let parsed = header::parse(header, 1);
     match parsed {
         Parsed::Taken(h) => put(decode(h, number, code), out),
         Parsed::Refused(n) => n as u32,

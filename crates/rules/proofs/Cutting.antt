@@ -1,6 +1,6 @@
 -- Bytes cut between records: the records of the parts are those of the whole.
 -- Assumes nothing.
-use Prim.Native.Nat.{ℕ, _+_, _/_, _%_, _≤_}
+use Prim.Native.Nat.{ℕ, _+_, _%_, _≤_}
 use native.Mathlib.Omega.{arith}
 use mathlib.Core.Path.{_≡_, refl, sym, ap, _∙_}
 use mathlib.Core.Bool.{Bool, true, false, cond}
@@ -9,30 +9,11 @@ use lib.Dec.{eqb}
 use lib.ListN.{length}
 use borrow.Author.Tests.{eqb-false, ne-eqb}
 use Rattle.records.specs.declared.Record.{Record}
-use Rattle.records.specs.Record.{recordOf, records, hasZero}
+use Rattle.records.specs.Record.{records, hasZero}
+use Rattle.records.proofs.Records.{records-append}
 use Rattle.rules.specs.Past.{Past, number, recording}
 use Rattle.rules.specs.Verdict.{Apart, Steps}
 use Rattle.rules.proofs.Events.{never}
-
-pub records-append : (xs ys : List ℕ) → length xs % 6 ≡ 0 → records (xs ++ ys) ≡ records xs ++ records ys
-records-append [] ys h = refl
-records-append (_ ∷ []) ys h = absurd (omega arith)
-records-append (_ ∷ _ ∷ []) ys h = absurd (omega arith)
-records-append (_ ∷ _ ∷ _ ∷ []) ys h = absurd (omega arith)
-records-append (_ ∷ _ ∷ _ ∷ _ ∷ []) ys h = absurd (omega arith)
-records-append (_ ∷ _ ∷ _ ∷ _ ∷ _ ∷ []) ys h = absurd (omega arith)
-records-append (b0 ∷ b1 ∷ b2 ∷ b3 ∷ b4 ∷ b5 ∷ xs) ys h =
-    ap (λ rs. recordOf b0 b1 b2 b3 b4 b5 ∷ rs) (records-append xs ys (omega arith))
-
--- a record takes six bytes
-pub length-records : (xs : List ℕ) → length xs % 6 ≡ 0 → length (records xs) ≡ length xs / 6
-length-records [] h = refl
-length-records (_ ∷ []) h = absurd (omega arith)
-length-records (_ ∷ _ ∷ []) h = absurd (omega arith)
-length-records (_ ∷ _ ∷ _ ∷ []) h = absurd (omega arith)
-length-records (_ ∷ _ ∷ _ ∷ _ ∷ []) h = absurd (omega arith)
-length-records (_ ∷ _ ∷ _ ∷ _ ∷ _ ∷ []) h = absurd (omega arith)
-length-records (b0 ∷ b1 ∷ b2 ∷ b3 ∷ b4 ∷ b5 ∷ xs) h = omega (arith, length-records xs (omega arith))
 
 -- ── Steps ───────────────────────────────────────────────────────────────────────────────────
 

@@ -1,4 +1,3 @@
-pub mod Sections
 pub mod Ranging
 pub mod Asking
 pub mod Soonest

@@ -1,122 +1,124 @@
 -- Opening, sections in turn and closing, over bytes: the answer is what the rules say of the recording that the taken sections make.
 -- Assumes nothing.
 use Prim.Native.Nat.{ℕ, _/_, _≤_}
-use native.Mathlib.Omega.{arith}
-use native.Mathlib.Decide.{ℕ-discrete}
-use mathlib.Core.Path.{_≡_, refl, sym, ap, _∙_, subst}
-use mathlib.Core.Bool.{Bool, cond}
-use mathlib.Core.List.{List, [], _∷_, _++_, append-nil, append-assoc}
-use lib.ListN.{length, length-append}
-use borrow.Author.Tests.{eq-eqb, ne-eqb, le-ltb}
+use native.Mathlib.Nat.{zero-div, zero-mod}
+use mathlib.Core.Path.{_≡_, sym, ap, _∙_, subst}
+use mathlib.Core.Bool.{Bool, true, false}
+use mathlib.Core.List.{List, [], _++_}
+use lib.ListN.{length}
+use borrow.Author.Tests.{le-ltb}
+use Rattle.laws.proofs.Cuts as machine
 use Rattle.header.specs.declared.Header.{Header}
-use Rattle.header.specs.declared.Parsed.the-variants.{Taken}
-use Rattle.header.specs.Bytes.{parsedOf}
-use Rattle.records.specs.Record.{records}
+use Rattle.header.specs.Bytes.{editionFor}
+use Rattle.records.specs.Record.{records, hasZero}
+use Rattle.wide.specs.Editions.{size, view}
+use Rattle.wide.proofs.Editions.{even-both, view-none, view-both, view-sixes, second-zero}
 use Rattle.chip.specs.Chip.{chipOf}
+use Rattle.edges.specs.Ends.{startRank}
 use Rattle.judge.specs.declared.State.{State}
 use Rattle.judge.specs.declared.Taken.{Taken as Answer}
 use Rattle.judge.specs.declared.Opened.{Opened}
 use Rattle.judge.specs.declared.Closed.{Closed}
 use Rattle.running.specs.Ranges.{lastEdge}
-use Rattle.judge.specs.Calls.{holding, startOf, openOf, sectionOf, closed, closeOf}
+use Rattle.running.specs.Ends.{noEnd}
+use Rattle.judge.specs.Calls.{holding, startOf, openOf, ofSecond, closed, closeOf}
 use Rattle.rules.specs.Past.{edge, recording}
 use Rattle.rules.specs.Verdict.{shownVerdict, Apart, answer}
 use Rattle.rules.proofs.Facts.{Sound}
-use Rattle.carries.proofs.Whole.{carried, start-carried}
-use Rattle.sections.proofs.Openings.{taken-sound, opened-state}
 use Rattle.rules.proofs.Cutting.{steps, apart-all, recording-append}
+use Rattle.carries.proofs.Whole.{carried, start-carried}
+use Rattle.sections.specs.Sections.{Opens, Fits, after, refused, run, taken, Judges}
+use Rattle.sections.proofs.Openings.{taken-sound, opened-state}
 use Rattle.sections.proofs.Never.{open-in-range, section-in-range}
-use Rattle.sections.specs.Sections.{refusal, Fits, run, taken, Judges}
-use Rattle.sections.proofs.Section.{fits, Stands, edge-is, count-is, so-far-is, waits-are, close-is, section-fits, section-refused, refused-is, verdict-is}
+use Rattle.sections.proofs.Section.{fits, stateOf, Stands, first-stood, second-stood, count-is, close-is, section-fits, section-refused, refused-by, verdict-is, second-is}
 
-start-is : (h : Header) → startOf h ≡ holding h (carried (chipOf h) [])
-start-is h = ap (holding h) (start-carried (chipOf h))
+start-is : (h : Header) (e : ℕ) → startOf h e ≡ stateOf h e []
+start-is h e = λ i. holding h e (at false i) (at true i)
+  where
+    at : (second : Bool) → startRank (chipOf h) ≡ carried (chipOf h) (recording (view e second []))
+    at second = start-carried (chipOf h) ∙ ap (λ bs. carried (chipOf h) (recording bs)) (sym (view-none e second))
 
-judges : (h : Header) → Sound (chipOf h) → (bs : List ℕ) (s : State) → Stands h bs s → Judges h bs s
-judges h S bs s a = record {
-  counted = count-is h S bs s a;
-  last = edge-is h S bs s a;
-  so-far = so-far-is h S bs s a;
-  waits = waits-are h S bs s a;
-  refused = refused-is h S bs s a;
-  unaltered = λ xs n. ap (λ (r : Answer). r .state) (section-refused h S bs s a xs (λ e. n (refused-is h S bs s a xs ∙ e)));
-  verdict = λ xs e. verdict-is h S bs s a xs (sym (refused-is h S bs s a xs) ∙ e);
-  close = close-is h S bs s a;
-}
-
--- a section more, where x says that it is taken
-abbrev joined : (bs xs : List ℕ) → List (List ℕ) → State → Bool → List ℕ
-joined bs xs xss s x = bs ++ (cond x xs [] ++ taken (sectionOf s xs .state) xss)
-
-module _ (h : Header) (S : Sound (chipOf h)) (bs : List ℕ) (s : State) (a : Stands h bs s) (xs : List ℕ) where
-  pub stands-more : Fits (length bs / 6) xs → Stands h (bs ++ xs) (sectionOf s xs .state)
-  stands-more f = record {
-    sixes = omega (arith, length-append bs xs, a .sixes, f .sixes);
-    apart =
-        subst Apart (recording-append bs xs (a .sixes))
-        (apart-all (records xs) (recording bs) (steps (records xs) (f .steps)) (a .apart));
-    state = ap (λ (r : Answer). r .state) (section-fits h S bs s a xs f);
-    range = section-in-range s xs (a .range);
+module _ (h : Header) (S : Sound (chipOf h)) (e : ℕ) where
+  judges : (bs : List ℕ) (s : State) → Stands h e bs s → Judges h e bs s
+  judges bs s a = record {
+    first-rank = first-stood h S e bs s a;
+    second-rank = second-stood h S e bs s a;
+    counted = count-is h S e bs s a;
+    refused-is = refused-by h S e bs s a;
+    unaltered = λ xs n. ap (λ (r : Answer). r .state) (section-refused h S e bs s a xs (λ q. n (refused-by h S e bs s a xs ∙ q)));
+    verdict = λ xs q. verdict-is h S e bs s a xs (sym (refused-by h S e bs s a xs) ∙ q);
+    second = λ xs q. second-is h S e bs s a xs (sym (refused-by h S e bs s a xs) ∙ q);
+    close = close-is h S e bs s a;
   }
 
-  pub stands-same : (refusal (length bs / 6) xs ≡ 0 → ⊥) → Stands h bs (sectionOf s xs .state)
-  stands-same n = subst (Stands h bs) (sym (ap (λ (r : Answer). r .state) (section-refused h S bs s a xs n))) a
+  -- ── The judge is a machine that takes sections ──────────────────────────────────────────────
 
-module _ (h : Header) (S : Sound (chipOf h)) where
-  stands-run : (xss : List (List ℕ)) (bs : List ℕ) (s : State) → Stands h bs s → Stands h (bs ++ taken s xss) (run s xss)
-  stands-run [] bs s a = rw (append-nil bs) a
-  stands-run (xs ∷ xss) bs s a = elim (ℕ-discrete (refusal (length bs / 6) xs) 0) [
-    | yes q ↦
-        subst (λ ys. Stands h ys (run (sectionOf s xs .state) xss))
-        (append-assoc bs xs (taken (sectionOf s xs .state) xss) ∙ ap (joined bs xs xss s) (sym (eq-eqb _ _ (refused-is h S bs s a xs ∙ q))))
-        (stands-run xss (bs ++ xs) (sectionOf s xs .state) (stands-more h S bs s a xs (fits (length bs / 6) xs q)))
-    | no q ↦
-        subst (λ ys. Stands h ys (run (sectionOf s xs .state) xss))
-        (ap (joined bs xs xss s) (sym (ne-eqb _ _ (λ e. q (sym (refused-is h S bs s a xs) ∙ e)))))
-        (stands-run xss bs (sectionOf s xs .state) (stands-same h S bs s a xs q))
-  ]
+  -- a section that fits leads on
+  pub stands-more : (bs : List ℕ) (s : State) → Stands h e bs s → (xs : List ℕ) → Fits e (length bs / size e) xs → Stands h e (bs ++ xs) (after s xs)
+  stands-more bs s a xs f = record {
+    even = even-both e bs xs (a .even) (f .even);
+    apart = λ second.
+        subst Apart (recording-append (view e second bs) (view e second xs) (view-sixes e second bs (a .even)) ∙ ap recording (sym (view-both e second bs xs (a .even))))
+        (apart-all (records (view e second xs)) (recording (view e second bs)) (steps (records (view e second xs)) (none second)) (a .apart second));
+    state = ap (λ (r : Answer). r .state) (section-fits h S e bs s a xs f);
+    range = section-in-range s xs (a .range);
+  }
+    where
+      none : (second : Bool) → hasZero (records (view e second xs)) ≡ false
+      none true = second-zero e xs (f .steps)
+      none false = f .steps
 
--- the state and the bytes after the sections xss, offered after the header bytes
-pub stands : (header : List ℕ) (h : Header) → parsedOf header ≡ Taken h → (xss : List (List ℕ))
-    → Stands h (taken (openOf header .state) xss) (run (openOf header .state) xss)
-stands header h e xss =
-    stands-run h (taken-sound header h e) xss [] (openOf header .state) (record {
-      sixes = refl;
-      apart = tt;
-      state = ap (λ (o : Opened). o .state) (opened-state header h e) ∙ start-is h;
-      range = open-in-range header (ap (λ (o : Opened). o .refused) (opened-state header h e));
-    })
+  pub takes : (bs : List ℕ) (s : State) → Stands h e bs s → (xs : List ℕ) → refused s xs ≡ 0 → Stands h e (bs ++ xs) (after s xs)
+  takes bs s a xs q = stands-more bs s a xs (fits e (length bs / size e) xs (sym (refused-by h S e bs s a xs) ∙ q))
 
--- however the sections are cut, and whichever are refused
-pub sections-judged :
-    (header : List ℕ) (h : Header) → parsedOf header ≡ Taken h → (xss : List (List ℕ))
-    → Judges h (taken (openOf header .state) xss) (run (openOf header .state) xss)
-sections-judged header h e xss =
-    judges h (taken-sound header h e) (taken (openOf header .state) xss) (run (openOf header .state) xss) (stands header h e xss)
+  pub leaves : (bs : List ℕ) (s : State) → Stands h e bs s → (xs : List ℕ) → (refused s xs ≡ 0 → ⊥) → after s xs ≡ s
+  leaves bs s a xs n = ap (λ (r : Answer). r .state) (section-refused h S e bs s a xs (λ q. n (refused-by h S e bs s a xs ∙ q)))
 
--- a whole recording in one go
-pub judged-whole :
-    (header : List ℕ) (h : Header) → parsedOf header ≡ Taken h → (bs : List ℕ) → Fits 0 bs → (end : ℕ) → edge (recording bs) ≤ end
-    → end ≤ lastEdge → closeOf (sectionOf (startOf h) bs .state) end ≡ closed (answer (chipOf h) (recording bs) end)
-judged-whole header h e bs f end l m =
-    close-is h S bs (sectionOf (startOf h) bs .state) after end
-    ∙ rw (le-ltb end (edge (recording bs)) l, le-ltb lastEdge end m)
-  where
-    S : Sound (chipOf h)
-    S = taken-sound header h e
+  stands-run : (xss : List (List ℕ)) (bs : List ℕ) (s : State) → Stands h e bs s → Stands h e (bs ++ taken s xss) (run s xss)
+  stands-run = machine.stands-run after refused (Stands h e) takes leaves
 
-    start : Stands h [] (startOf h)
-    start = subst (Stands h []) (ap (λ (o : Opened). o .state) (opened-state header h e)) (stands header h e [])
+-- ── From opening on ─────────────────────────────────────────────────────────────────────────
 
-    after : Stands h bs (sectionOf (startOf h) bs .state)
-    after = stands-more h S [] (startOf h) start bs f
+module _ (header : List ℕ) (h : Header) (o : Opens header h) where
+  abbrev e : ℕ
+  e = editionFor header
 
-pub judged-verdict :
-    (header : List ℕ) (h : Header) → parsedOf header ≡ Taken h → (bs : List ℕ) → Fits 0 bs → (end : ℕ) → edge (recording bs) ≤ end
-    → end ≤ lastEdge
-    → (closeOf (sectionOf (startOf h) bs .state) end .refused ≡ 0)
-    × (closeOf (sectionOf (startOf h) bs .state) end .end .verdict ≡ shownVerdict (chipOf h) (recording bs) end)
-unfolding answer
-judged-verdict header h e bs f end l m =
-    let w = judged-whole header h e bs f end l m in
-    (ap (λ (c : Closed). c .refused) w, ap (λ (c : Closed). c .end .verdict) w)
+  pub sound-chip : Sound (chipOf h)
+  sound-chip = taken-sound e header h o
+
+  pub opened : Stands h e [] (openOf header .state)
+  opened = record {
+    even = zero-mod (size e);
+    apart = λ second. rw (view-none e second) tt;
+    state = ap (λ (x : Opened). x .state) (opened-state header h o) ∙ start-is h e;
+    range = open-in-range header (ap (λ (x : Opened). x .refused) (opened-state header h o));
+  }
+
+  -- the state and the bytes after the sections xss, offered after the header bytes
+  pub stands : (xss : List (List ℕ)) → Stands h e (taken (openOf header .state) xss) (run (openOf header .state) xss)
+  stands xss = stands-run h sound-chip e xss [] (openOf header .state) opened
+
+  -- however the sections are cut, and whichever are refused
+  pub sections-judged : (xss : List (List ℕ)) → Judges h e (taken (openOf header .state) xss) (run (openOf header .state) xss)
+  sections-judged xss = judges h sound-chip e (taken (openOf header .state) xss) (run (openOf header .state) xss) (stands xss)
+
+  -- a whole recording in one go
+  module _ (bs : List ℕ) (f : Fits e 0 bs) (end : ℕ) (l : edge (recording (view e false bs)) ≤ end) (m : end ≤ lastEdge) where
+    start : Stands h e [] (startOf h e)
+    start = subst (Stands h e []) (ap (λ (x : Opened). x .state) (opened-state header h o)) opened
+
+    whole : Stands h e bs (after (startOf h e) bs)
+    whole = stands-more h sound-chip e [] (startOf h e) start bs (rw (zero-div (size e)) f)
+
+    pub judged-whole :
+        closeOf (after (startOf h e) bs) end
+        ≡ closed (answer (chipOf h) (recording (view e false bs)) end) (ofSecond e (answer (chipOf h) (recording (view e true bs)) end) noEnd)
+    judged-whole =
+        close-is h sound-chip e bs (after (startOf h e) bs) whole end
+        ∙ rw (le-ltb end (edge (recording (view e false bs))) l, le-ltb lastEdge end m)
+
+    pub judged-verdict :
+        (closeOf (after (startOf h e) bs) end .refused ≡ 0)
+        × (closeOf (after (startOf h e) bs) end .end .verdict ≡ shownVerdict (chipOf h) (recording (view e false bs)) end)
+    unfolding answer
+    judged-verdict = (ap (λ (c : Closed). c .refused) judged-whole, ap (λ (c : Closed). c .end .verdict) judged-whole)

@@ -10,7 +10,8 @@
 //
 // 0 and 1 print one line: the case's first refusal, or its closing. 2, 3 and 4 print a line after each section, its refusal or
 // the verdict so far, 4 also one of the 36 waiting times, and then the closing of what was taken. A closing is the verdict's line;
-// for 1, 3 and 4 the verdict, its 20 bytes, the banks, the registers and the refresh debt.
+// for 1, 3 and 4 the verdict, its 20 bytes, the banks, the registers and the refresh debt. Of edition 2 each of these is a line a rank, the first
+// rank's first; a refusal is one.
 mod show;
 
 use judge::State;
@@ -130,13 +131,21 @@ fn taken(run: Run, print: u8, section: &[u8]) -> Run {
             state: next,
         };
     }
-    show::so_far(t.refused, t.verdict);
+    show::so_far(t);
     if print == 4 {
-        let waits = next.rank.waits;
-        show::waits(waits);
+        waits(next);
     }
     Run {
         refused: 0,
         state: next,
+    }
+}
+
+fn waits(s: State) {
+    let one = s.one.waits;
+    show::waits(one);
+    if s.edition == 2 {
+        let two = s.two.waits;
+        show::waits(two);
     }
 }

@@ -5,17 +5,22 @@ use answers::Register;
 use answers::Shown;
 use answers::Verdict;
 use edges::Waits;
+use judge::Taken;
 use libc::STDOUT_FILENO;
 use lines::ROOM;
 
 // As an end edge: the last record's.
 const LAST: u64 = 281474976710655;
 
-pub(crate) fn so_far(refused: u64, v: Verdict) {
-    if refused != 0 {
-        refusal(refused);
-    } else {
-        line(v);
+// Of edition 2 a line a rank.
+pub(crate) fn so_far(t: Taken) {
+    if t.refused != 0 {
+        refusal(t.refused);
+        return;
+    }
+    line(t.verdict);
+    if t.state.edition == 2 {
+        line(t.second);
     }
 }
 
@@ -48,14 +53,24 @@ pub(crate) fn close(run: Run, whole: bool, end: u64) {
         return;
     }
     let state = run.state;
-    let c = state.close(if end == LAST { state.rank.edge } else { end });
+    let c = state.close(if end == LAST { state.one.edge } else { end });
     if c.refused != 0 {
         refusal(c.refused);
-    } else if whole {
-        let e = c.end;
+        return;
+    }
+    let e = c.end;
+    ended(e, whole);
+    if state.edition == 2 {
+        let second = c.second;
+        ended(second, whole);
+    }
+}
+
+fn ended(e: End, whole: bool) {
+    if whole {
         closing(e);
     } else {
-        line(c.end.verdict);
+        line(e.verdict);
     }
 }
 

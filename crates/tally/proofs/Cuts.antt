@@ -3,18 +3,18 @@
 -- Assumes nothing.
 use Prim.Native.Nat.{ℕ, _+_, _/_, _%_, _≤_, _<_}
 use native.Mathlib.Omega.{arith}
-use native.Mathlib.Decide.{ℕ-discrete}
 use mathlib.Core.Bool.{Bool, true, false, cond}
-use mathlib.Core.List.{List, [], _∷_, _++_, append-nil, append-assoc, reverseAux}
-use mathlib.Core.Path.{_≡_, refl, sym, ap, _∙_, subst}
+use mathlib.Core.List.{List, [], _∷_, _++_, reverseAux}
+use mathlib.Core.Path.{_≡_, refl, sym, ap, _∙_}
 use lib.Dec.{eqb}
 use lib.ListN.{length, getD, length-append}
-use borrow.Author.Tests.{eqb-true, eq-eqb, ne-eqb}
+use borrow.Author.Tests.{eqb-true, eq-eqb}
 use Rattle.records.specs.declared.Record.{Record}
 use Rattle.records.specs.Command.{a10}
 use Rattle.records.specs.Record.{records}
 use Rattle.rules.specs.Past.{Past, number, cke, asleep, command, recording}
-use Rattle.rules.proofs.Cutting.{length-records, number-all, recording-append}
+use Rattle.rules.proofs.Cutting.{number-all, recording-append}
+use Rattle.records.proofs.Records.{length-records}
 use Rattle.tally.specs.declared.Tally.{Tally}
 use Rattle.tally.specs.declared.Tallied.{Tallied}
 use Rattle.tally.specs.Kinds.{kindOf, kindAt}
@@ -22,7 +22,9 @@ use Rattle.tally.specs.Tally.{start, stepOf, foldOf, largest, inRange, t
 use Rattle.tally.specs.Counts.{countOf, nineteen, tallyOf, total}
 use Rattle.tally.proofs.Ranging.{in-range}
 use Rattle.tally.proofs.Nineteen.{kind-below, raised-at, at-nineteen, total-raised, below-total}
-use Rattle.tally.specs.Search.{uncut}
+use Rattle.laws.specs.Cuts as cuts
+use Rattle.laws.specs.Cuts.{uncut, Each, Offer, parts, offered, whole}
+use Rattle.laws.proofs.Cuts as machine
 
 -- ── Records ─────────────────────────────────────────────────────────────────────────────────
 
@@ -85,15 +87,18 @@ module _ (t : Tally) (xs : List ℕ) where
 
 -- ── Sections in turn ────────────────────────────────────────────────────────────────────────
 
--- the tally after the sections, offered in turn
-abbrev pub run : Tally → List (List ℕ) → Tally
-run t [] = t
-run t (xs ∷ xss) = run (sectionOf t xs .tally) xss
+abbrev sectionIs : Tally → List ℕ → Tally
+sectionIs t xs = sectionOf t xs .tally
 
--- the bytes of those that are taken, one after the other
+abbrev refusedIs : Tally → List ℕ → ℕ
+refusedIs t xs = sectionOf t xs .refused
+
+-- the tally after the sections, offered in turn, and the bytes of those that are taken
+abbrev pub run : Tally → List (List ℕ) → Tally
+run = cuts.run sectionIs
+
 abbrev pub taken : Tally → List (List ℕ) → List ℕ
-taken t [] = []
-taken t (xs ∷ xss) = cond (eqb (sectionOf t xs .refused) 0) xs [] ++ taken (sectionOf t xs .tally) xss
+taken = cuts.taken sectionIs refusedIs
 
 -- the tally of the records of the bytes bs
 pub record Stands (bs : List ℕ) (t : Tally) : Type 0 where
@@ -103,34 +108,21 @@ pub record Stands (bs : List ℕ) (t : Tally) : Type 0 where
 pub start-stands : Stands [] start
 start-stands = record { sixes = refl; whole = start-is }
 
-abbrev joined : (bs xs : List ℕ) → List (List ℕ) → Tally → Bool → List ℕ
-joined bs xs xss t x = bs ++ (cond x xs [] ++ taken (sectionOf t xs .tally) xss)
+takes : (bs : List ℕ) (t : Tally) → Stands bs t → (xs : List ℕ) → refusedIs t xs ≡ 0 → Stands (bs ++ xs) (sectionIs t xs)
+takes bs t s xs z =
+    let w = section-taken t xs z in
+    record {
+      sixes = omega (arith, length-append bs xs, s .sixes, w .0);
+      whole =
+          w .1 ∙ ap (λ (u : Tally). foldOf u (records xs)) (s .whole) ∙ fold-is (records xs) (recording bs)
+          ∙ ap tallyOf (recording-append bs xs (s .sixes));
+    }
 
-module _ (bs : List ℕ) (t : Tally) (s : Stands bs t) (xs : List ℕ) where
-  stands-more : sectionOf t xs .refused ≡ 0 → Stands (bs ++ xs) (sectionOf t xs .tally)
-  stands-more z =
-      let w = section-taken t xs z in
-      record {
-        sixes = omega (arith, length-append bs xs, s .sixes, w .0);
-        whole =
-            w .1 ∙ ap (λ (u : Tally). foldOf u (records xs)) (s .whole) ∙ fold-is (records xs) (recording bs)
-            ∙ ap tallyOf (recording-append bs xs (s .sixes));
-      }
-
-  stands-same : (sectionOf t xs .refused ≡ 0 → ⊥) → Stands bs (sectionOf t xs .tally)
-  stands-same n = subst (Stands bs) (sym (section-refused t xs n)) s
+leaves : (bs : List ℕ) (t : Tally) → Stands bs t → (xs : List ℕ) → (refusedIs t xs ≡ 0 → ⊥) → sectionIs t xs ≡ t
+leaves bs t s xs n = section-refused t xs n
 
 stands-run : (xss : List (List ℕ)) (bs : List ℕ) (t : Tally) → Stands bs t → Stands (bs ++ taken t xss) (run t xss)
-stands-run [] bs t s = rw (append-nil bs) s
-stands-run (xs ∷ xss) bs t s = elim (ℕ-discrete (sectionOf t xs .refused) 0) [
-  | yes q ↦
-      subst (λ ys. Stands ys (run (sectionOf t xs .tally) xss))
-      (append-assoc bs xs (taken (sectionOf t xs .tally) xss) ∙ ap (joined bs xs xss t) (sym (eq-eqb _ _ q)))
-      (stands-run xss (bs ++ xs) (sectionOf t xs .tally) (stands-more bs t s xs q))
-  | no q ↦
-      subst (λ ys. Stands ys (run (sectionOf t xs .tally) xss)) (ap (joined bs xs xss t) (sym (ne-eqb _ _ q)))
-      (stands-run xss bs (sectionOf t xs .tally) (stands-same bs t s xs q))
-]
+stands-run = machine.stands-run sectionIs refusedIs Stands takes leaves
 
 -- ── What a tally tells ──────────────────────────────────────────────────────────────────────
 
@@ -155,7 +147,7 @@ tells bs t s = record {
 }
   where
     count : number (recording bs) ≡ length bs / 6
-    count = omega (arith, number-all (records bs) [], length-records bs (s .sixes))
+    count = omega (arith, number-all (records bs) [], length-records bs)
 
     ranged : length bs / 6 ≤ largest → inRange (t .counts) ≡ true
     ranged most = rw (s .whole) (in-range (tallyOf (recording bs) .counts) (λ k. omega (arith, count-most (recording bs) k, count)))
@@ -168,37 +160,56 @@ tells bs t s = record {
 pub sections-tallied : (xss : List (List ℕ)) → Tells (taken start xss) (run start xss)
 sections-tallied xss = tells (taken start xss) (run start xss) (stands-run xss [] start start-stands)
 
--- two cuts of one recording have one tally
-pub cuts-agree : (xss yss : List (List ℕ)) → taken start xss ≡ taken start yss → run start xss ≡ run start yss
-cuts-agree xss yss e =
-    let one = stands-run xss [] start start-stands in
-    let other = stands-run yss [] start start-stands in
-    one .whole ∙ ap (λ bs. tallyOf (recording bs)) e ∙ sym (other .whole)
-
--- ── A whole recording in one section ────────────────────────────────────────────────────────
+-- ── A recording that is cut ─────────────────────────────────────────────────────────────────
 
 -- each section ends between records
+abbrev pub Six : List ℕ → Type 0
+Six xs = length xs % 6 ≡ 0
+
 abbrev pub Sixes : List (List ℕ) → Type 0
-Sixes [] = Unit
-Sixes (xs ∷ xss) = (length xs % 6 ≡ 0) × Sixes xss
+Sixes = Each Six
 
 pub uncut-sixes : (xss : List (List ℕ)) → Sixes xss → length (uncut xss) % 6 ≡ 0
 uncut-sixes [] h = refl
 uncut-sixes (xs ∷ xss) h = omega (arith, length-append xs (uncut xss), h .0, uncut-sixes xss (h .1))
 
+-- a section that is taken after bs, as long as 17 is not given
+pub record Fits (bs xs : List ℕ) : Type 0 where
+  pub sixes : length xs % 6 ≡ 0
+  pub room : (length bs + length xs) / 6 ≤ largest
+
+fits : (bs : List ℕ) (t : Tally) → Stands bs t → (xs : List ℕ) → Fits bs xs → refusedIs t xs ≡ 0
+fits bs t s xs f = tells bs t s .refused (omega (arith, f .room)) xs ∙ rw (eq-eqb (length xs % 6) 0 (f .sixes))
+
+cut : (bs : List ℕ) (t : Tally) → Stands bs t → (xs ys : List ℕ) → Six xs → Fits bs (xs ++ ys) → Fits bs xs × Fits (bs ++ xs) ys
+cut bs t s xs ys six f =
+    let long = length-append xs ys in (
+      record { sixes = six; room = omega (arith, f .room) },
+      record { sixes = omega (arith, f .sixes); room = omega (arith, f .room, length-append bs xs) },
+    )
+
+-- whatever refused sections are offered in between
+pub every-cut :
+    (os : List Offer) → Sixes (parts os) → length (whole os) / 6 ≤ largest → cuts.Spare sectionIs refusedIs start os
+    → cuts.Goes sectionIs refusedIs start os × (taken start (offered os) ≡ whole os)
+every-cut os even most spare =
+    machine.every-cut sectionIs refusedIs Stands takes leaves Fits Six fits cut os [] start start-stands even
+    (record { sixes = uncut-sixes (parts os) even; room = omega (arith, most) }) spare
+
+pub cut-same :
+    (os : List Offer) → Sixes (parts os) → length (whole os) / 6 ≤ largest → cuts.Spare sectionIs refusedIs start os
+    → run start (offered os) ≡ sectionOf start (whole os) .tally
+cut-same os even most spare =
+    machine.cut-same sectionIs refusedIs Stands takes leaves Fits Six fits cut (λ bs s t a b. a .whole ∙ sym (b .whole)) os start start-stands even
+    (record { sixes = uncut-sixes (parts os) even; room = omega (arith, most) }) spare
+
+-- sections that all fit are all taken
 pub all-taken :
     (xss : List (List ℕ)) (bs : List ℕ) (t : Tally) → Stands bs t → Sixes xss → (length bs + length (uncut xss)) / 6 ≤ largest
     → taken t xss ≡ uncut xss
 all-taken [] bs t s h m = refl
 all-taken (xs ∷ xss) bs t s h m =
     let longer = length-append xs (uncut xss) in
-    let z : sectionOf t xs .refused ≡ 0 = tells bs t s .refused (omega arith) xs ∙ rw (eq-eqb (length xs % 6) 0 (h .0)) in
+    let z : refusedIs t xs ≡ 0 = fits bs t s xs (record { sixes = h .0; room = omega arith }) in
     rw (eq-eqb _ _ z)
-    (ap (λ ys. xs ++ ys) (all-taken xss (bs ++ xs) (sectionOf t xs .tally) (stands-more bs t s xs z) (h .1) (omega (arith, length-append bs xs))))
-
-pub cut-or-not : (xss : List (List ℕ)) → Sixes xss → length (uncut xss) / 6 ≤ largest → run start xss ≡ sectionOf start (uncut xss) .tally
-cut-or-not xss h m =
-    let whole = uncut-sixes xss h in
-    cuts-agree xss (uncut xss ∷ [])
-    (all-taken xss [] start start-stands h (omega arith) ∙ sym (append-nil (uncut xss))
-    ∙ sym (all-taken (uncut xss ∷ []) [] start start-stands (whole, tt) (omega (arith, ap length (append-nil (uncut xss))))))
+    (ap (λ ys. xs ++ ys) (all-taken xss (bs ++ xs) (sectionIs t xs) (takes bs t s xs z) (h .1) (omega (arith, length-append bs xs))))

@@ -15,7 +15,8 @@ use borrow.Author.Tests.{ltb-true, ltb-false}
 use Rattle.records.specs.Record.{fieldsOf, records, recordAt}
 use Rattle.running.specs.Ranges.{limit}
 use Rattle.rules.specs.Past.{Past, number, asleep}
-use Rattle.rules.proofs.Cutting.{records-append, number-all, reverse-append}
+use Rattle.rules.proofs.Cutting.{number-all, reverse-append}
+use Rattle.records.proofs.Records.{records-append}
 use Rattle.rules.proofs.Generic.{decide}
 use Rattle.tally.specs.declared.Placed.{Placed}
 use Rattle.tally.specs.declared.Sought.the-variants.{Here, Elsewhere}
@@ -26,7 +27,8 @@ use Rattle.tally.proofs.Cuts.{Sixes, uncut-sixes}
 use Rattle.tally.proofs.Walking.{keeps}
 use Rattle.tally.proofs.Words.{records-words}
 use Rattle.tally.proofs.Placing.{Reachable, reachable-all, spotOf, foundAt, find-at, pass-is, find-none}
-use Rattle.tally.specs.Search.{uncut, first, passIn, findIn, findAll, Cut, CutAs}
+use Rattle.tally.specs.Search.{first, passIn, findIn, findAll, Cut, CutAs}
+use Rattle.laws.specs.Cuts.{uncut}
 use Rattle.tally.proofs.Seeking.{pass-file, find-file}
 use Rattle.tally.proofs.Standing.{skip-most, count-words, count-records, count-more, word-there, split, left-over}
 

@@ -9,7 +9,7 @@ use lib.ListN.{length, drop, getD, set}
 use Rattle.records.specs.declared.Record.{Record}
 use Rattle.records.specs.Record.{records, recordAt}
 use Rattle.records.specs.Command.{asleepAfter}
-use Rattle.running.proofs.Sections.{at-step, at-end}
+use Rattle.records.proofs.Records.{at-step, at-end}
 use Rattle.laws.proofs.Eight.{at-set}
 use Rattle.tally.specs.declared.Tally.{Tally}
 use Rattle.tally.specs.Kinds.{kindAt}

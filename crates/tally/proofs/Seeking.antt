@@ -13,7 +13,8 @@ use Rattle.tally.specs.declared.Sought.{Sought}
 use Rattle.tally.specs.declared.Sought.the-variants.{Here}
 use Rattle.tally.specs.Walk.{wrapped}
 use Rattle.tally.specs.Places.{words, afterOf, passedOf, placedOf, findOf, bodyOf}
-use Rattle.tally.specs.Search.{uncut, first, passIn, findIn, Between, Cut}
+use Rattle.tally.specs.Search.{first, passIn, findIn, Between, Cut}
+use Rattle.laws.specs.Cuts.{uncut}
 use Rattle.tally.proofs.Words.{words-append}
 
 -- ── Sections in turn ────────────────────────────────────────────────────────────────────────

@@ -5,61 +5,41 @@ use native.Mathlib.Nat.{add-zero}
 use native.Mathlib.Omega.{arith}
 use mathlib.Core.List.{List, [], _∷_, _++_, map}
 use mathlib.Core.Path.{_≡_, refl, ap, _∙_}
-use lib.ListN.{length, getD, drop, length-drop}
-use lib.Seq.{getD-drop, drop-drop}
-use Rattle.bits.specs.Bits.{word48}
-use Rattle.records.specs.Record.{fieldsOf, recordOf, records}
+use lib.ListN.{length, getD, take, drop, length-drop, length-map}
+use lib.Seq.{getD-take, getD-drop, drop-drop}
+use Rattle.records.specs.Pieces.{pieces}
+use Rattle.records.specs.Record.{fieldsOf, recordAt, records}
+use Rattle.records.proofs.Pieces.{length-pieces, no-piece, next-piece, pieces-append, map-append}
 use Rattle.tally.specs.Places.{wordAt, words}
 
+front : (bs : List ℕ) → wordAt (take 6 bs) 0 ≡ wordAt bs 0
+front bs =
+    rw (getD-take 6 bs 0 0 (omega arith), getD-take 6 bs 1 0 (omega arith), getD-take 6 bs 2 0 (omega arith), getD-take 6 bs 3 0 (omega arith), getD-take 6 bs 4 0 (omega arith), getD-take 6 bs 5 0 (omega arith))
+
 six : (l : List ℕ) → 6 ≤ length l → words l ≡ wordAt l 0 ∷ words (drop 6 l)
-six [] h = absurd (omega arith)
-six (_ ∷ []) h = absurd (omega arith)
-six (_ ∷ _ ∷ []) h = absurd (omega arith)
-six (_ ∷ _ ∷ _ ∷ []) h = absurd (omega arith)
-six (_ ∷ _ ∷ _ ∷ _ ∷ []) h = absurd (omega arith)
-six (_ ∷ _ ∷ _ ∷ _ ∷ _ ∷ []) h = absurd (omega arith)
-six (_ ∷ _ ∷ _ ∷ _ ∷ _ ∷ _ ∷ l) h = refl
+six l h = ap (map (λ xs. wordAt xs 0)) (next-piece 6 (omega arith) l h) ∙ ap (λ w. w ∷ words (drop 6 l)) (front l)
 
 pub word-step : (bs : List ℕ) (at : ℕ) → at + 6 ≤ length bs → words (drop at bs) ≡ wordAt bs at ∷ words (drop (at + 6) bs)
 word-step bs at h = six (drop at bs) (simp length-drop (omega arith)) ∙ simp (getD-drop, drop-drop, add-zero)
 
 -- fewer than six bytes make no record
 pub no-word : (l : List ℕ) → length l < 6 → words l ≡ []
-no-word [] h = refl
-no-word (_ ∷ []) h = refl
-no-word (_ ∷ _ ∷ []) h = refl
-no-word (_ ∷ _ ∷ _ ∷ []) h = refl
-no-word (_ ∷ _ ∷ _ ∷ _ ∷ []) h = refl
-no-word (_ ∷ _ ∷ _ ∷ _ ∷ _ ∷ []) h = refl
-no-word (_ ∷ _ ∷ _ ∷ _ ∷ _ ∷ _ ∷ l) h = absurd (omega arith)
+no-word l h = ap (map (λ xs. wordAt xs 0)) (no-piece 6 l h)
+
+fields : (ps : List (List ℕ)) → map (λ xs. recordAt xs 0) ps ≡ map fieldsOf (map (λ xs. wordAt xs 0) ps)
+fields [] = refl
+fields (p ∷ ps) = ap (λ rs. recordAt p 0 ∷ rs) (fields ps)
 
 pub records-words : (bs : List ℕ) → records bs ≡ map fieldsOf (words bs)
-records-words [] = refl
-records-words (_ ∷ []) = refl
-records-words (_ ∷ _ ∷ []) = refl
-records-words (_ ∷ _ ∷ _ ∷ []) = refl
-records-words (_ ∷ _ ∷ _ ∷ _ ∷ []) = refl
-records-words (_ ∷ _ ∷ _ ∷ _ ∷ _ ∷ []) = refl
-records-words (b0 ∷ b1 ∷ b2 ∷ b3 ∷ b4 ∷ b5 ∷ l) = ap (λ rs. recordOf b0 b1 b2 b3 b4 b5 ∷ rs) (records-words l)
+records-words bs = fields (pieces 6 bs)
 
 -- whole records, then more
 pub words-append : (xs ys : List ℕ) → length xs % 6 ≡ 0 → words (xs ++ ys) ≡ words xs ++ words ys
-words-append [] ys h = refl
-words-append (_ ∷ []) ys h = absurd (omega arith)
-words-append (_ ∷ _ ∷ []) ys h = absurd (omega arith)
-words-append (_ ∷ _ ∷ _ ∷ []) ys h = absurd (omega arith)
-words-append (_ ∷ _ ∷ _ ∷ _ ∷ []) ys h = absurd (omega arith)
-words-append (_ ∷ _ ∷ _ ∷ _ ∷ _ ∷ []) ys h = absurd (omega arith)
-words-append (b0 ∷ b1 ∷ b2 ∷ b3 ∷ b4 ∷ b5 ∷ xs) ys h = ap (λ ws. word48 b0 b1 b2 b3 b4 b5 ∷ ws) (words-append xs ys (omega arith))
+words-append xs ys h =
+    ap (map (λ zs. wordAt zs 0)) (pieces-append 6 (omega arith) xs ys h) ∙ map-append (λ zs. wordAt zs 0) (pieces 6 xs) (pieces 6 ys)
 
 pub length-words : (bs : List ℕ) → length (words bs) ≡ length bs / 6
-length-words [] = refl
-length-words (_ ∷ []) = omega arith
-length-words (_ ∷ _ ∷ []) = omega arith
-length-words (_ ∷ _ ∷ _ ∷ []) = omega arith
-length-words (_ ∷ _ ∷ _ ∷ _ ∷ []) = omega arith
-length-words (_ ∷ _ ∷ _ ∷ _ ∷ _ ∷ []) = omega arith
-length-words (_ ∷ _ ∷ _ ∷ _ ∷ _ ∷ _ ∷ l) = omega (arith, length-words l)
+length-words bs = length-map (pieces 6 bs) (λ xs. wordAt xs 0) ∙ length-pieces 6 bs
 
 at-drop : (a : ℕ) (bs : List ℕ) (i j : ℕ) → getD (drop a bs) (i + j) 0 ≡ getD bs (a + i + j) 0
 at-drop a bs i j = getD-drop a bs (i + j) 0 ∙ ap (λ k. getD bs k 0) (omega arith)

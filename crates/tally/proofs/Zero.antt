@@ -8,7 +8,7 @@ use lib.ListN.{length, drop, length-drop}
 use borrow.Author.Tests.{eq-eqb, ne-eqb}
 use Rattle.records.specs.declared.Record.{Record}
 use Rattle.records.specs.Record.{records, recordAt}
-use Rattle.running.proofs.Sections.{at-step}
+use Rattle.records.proofs.Records.{at-step}
 use Rattle.tally.specs.Refused.{beforeZero}
 
 -- fewer than six bytes make no record

@@ -2,11 +2,12 @@
 -- Assumes nothing.
 use Prim.Native.Nat.{ℕ, _+_, _-_, _*_, _/_}
 use mathlib.Core.Bool.{Bool, true, false, cond}
-use mathlib.Core.List.{List, [], _∷_, _++_, reverse}
+use mathlib.Core.List.{List, [], _∷_, _++_, map, reverse}
 use lib.Dec.{eqb, ltb}
 use lib.ListN.{length, getD, take, drop}
 use Rattle.bits.specs.Bits.{word48}
 use Rattle.records.specs.declared.Record.{Record}
+use Rattle.records.specs.Pieces.{pieces}
 use Rattle.records.specs.Record.{fieldsOf, records, recordAt}
 use Rattle.tally.specs.declared.Spot.{Spot}
 use Rattle.tally.specs.declared.Placed.{Placed}
@@ -22,13 +23,7 @@ wordAt bs i = word48 (getD bs i 0) (getD bs (i + 1) 0) (getD bs (i + 2) 0) (getD
 
 -- those of each record; bytes that make no whole record give none
 abbrev pub words : List ℕ → List ℕ
-words (b0 ∷ b1 ∷ b2 ∷ b3 ∷ b4 ∷ b5 ∷ rest) = word48 b0 b1 b2 b3 b4 b5 ∷ words rest
-words [] = []
-words (_ ∷ []) = []
-words (_ ∷ _ ∷ []) = []
-words (_ ∷ _ ∷ _ ∷ []) = []
-words (_ ∷ _ ∷ _ ∷ _ ∷ []) = []
-words (_ ∷ _ ∷ _ ∷ _ ∷ _ ∷ []) = []
+words bs = map (λ xs. wordAt xs 0) (pieces 6 bs)
 
 -- the bytes of a file before its first record: six of a header
 abbrev pub skipOf : (headed : Bool) → ℕ

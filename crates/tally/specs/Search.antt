@@ -2,21 +2,17 @@
 -- Assumes nothing.
 use Prim.Native.Nat.{ℕ, _%_}
 use mathlib.Core.Bool.{Bool, false}
-use mathlib.Core.List.{List, [], _∷_, _++_}
+use mathlib.Core.List.{List, [], _∷_}
 use mathlib.Core.Logic.{_⊎_}
 use mathlib.Core.Path.{_≡_}
 use lib.ListN.{length}
+use Rattle.laws.specs.Cuts.{uncut}
 use Rattle.tally.specs.declared.Spot.{Spot}
 use Rattle.tally.specs.declared.Sought.{Sought}
 use Rattle.tally.specs.declared.Sought.the-variants.{Here, Elsewhere}
 use Rattle.tally.specs.Places.{words, begunOf, passedOf, findOf, bodyOf}
 
 -- ── Sections in turn ────────────────────────────────────────────────────────────────────────
-
--- the uncut bytes
-abbrev pub uncut : List (List ℕ) → List ℕ
-uncut [] = []
-uncut (xs ∷ xss) = xs ++ uncut xss
 
 -- what is found first
 abbrev pub first : Sought → Sought → Sought

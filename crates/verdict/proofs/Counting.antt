@@ -1,12 +1,13 @@
 -- Opening counts no record; a section that is taken adds its records to the count, and keeps the limit.
 -- Assumes nothing.
-use Prim.Native.Nat.{ℕ, zero, suc, _+_, _*_, _/_, _%_, _≤_, _<_}
+use Prim.Native.Nat.{ℕ, zero, suc, _+_, _*_, _/_, _%_, _≤_}
 use native.Mathlib.Nat.{add-zero}
+use native.Mathlib.Decide.{ℕ-discrete}
 use native.Mathlib.Omega.{arith}
 use mathlib.Core.Bool.{Bool, true, false, cond}
 use mathlib.Core.List.{List, [], _∷_}
 use mathlib.Core.Path.{_≡_, refl, sym, ap, _∙_}
-use borrow.Author.Tests.{ltb-false}
+use borrow.Author.Tests.{ltb-false, eq-eqb, ne-eqb}
 use lib.Dec.{eqb, ltb}
 use lib.ListN.{length, drop, length-take, length-drop}
 use lib.ListN.{take as firsts}
@@ -15,13 +16,16 @@ use Rattle.chip.specs.declared.Chip.{Chip}
 use Rattle.chip.specs.Chip.{chipOf}
 use Rattle.records.specs.declared.Record.{Record}
 use Rattle.records.specs.Record.{records, hasZero}
+use Rattle.records.proofs.Records.{length-records}
+use Rattle.wide.specs.Editions.{size, view, spareIn, refusal}
+use Rattle.wide.proofs.Editions.{view-count}
 use Rattle.edges.specs.declared.Rank.{Rank}
 use Rattle.judge.specs.declared.State.{State}
 use Rattle.header.specs.declared.Parsed.{Parsed}
 use Rattle.header.specs.declared.Parsed.the-variants.{Taken as TakenHeader, Refused}
-use Rattle.header.specs.Bytes.{parsedOf}
+use Rattle.header.specs.Bytes.{editionFor, parsedOf}
 use Rattle.edges.specs.Ends.{freshRank}
-use Rattle.judge.specs.Calls.{holding, openedBy, openOf, refuse, take, sectionOf}
+use Rattle.judge.specs.Calls.{openedBy, openOf, refuse, folded, takenBy, sectionOf}
 use Rattle.running.specs.Ranges.{limit}
 use Rattle.judge.specs.Ranges.{inRange}
 use Rattle.running.specs.Said.{isClean}
@@ -32,10 +36,10 @@ use Rattle.program.specs.Program.{openedRun, ranOver}
 use Rattle.program.proofs.Blocks.{after, goes, had-more, was-full}
 use Rattle.verdict.specs.Reading.{Opened, Took}
 
--- a full section was taken: 1,000 records more, within the limit
+-- a full section was taken: 750 records more at least, those of edition 2, within the limit
 pub record Full (before after : State) : Type 0 where
-  pub more : after .rank .count ≡ before .rank .count + 1000
-  pub within : after .rank .count ≤ limit
+  pub more : before .one .count + 750 ≤ after .one .count
+  pub within : after .one .count ≤ limit
 
 module _ (C : Chip) where
   by-cases : (s : Rank) (r : Record) (v w : Verdict) (x y : Bool)
@@ -53,43 +57,51 @@ module _ (C : Chip) where
   all-more s [] = sym (add-zero (s .count))
   all-more s (r ∷ rs) = omega (arith, all-more (stepOf C s r) rs, one-more s r)
 
--- six bytes a record
-sixes : (bs : List ℕ) → (6 * length (records bs) ≤ length bs) × (length bs < 6 * length (records bs) + 6)
-sixes [] = (omega arith, omega arith)
-sixes (_ ∷ []) = (omega arith, omega arith)
-sixes (_ ∷ _ ∷ []) = (omega arith, omega arith)
-sixes (_ ∷ _ ∷ _ ∷ []) = (omega arith, omega arith)
-sixes (_ ∷ _ ∷ _ ∷ _ ∷ []) = (omega arith, omega arith)
-sixes (_ ∷ _ ∷ _ ∷ _ ∷ _ ∷ []) = (omega arith, omega arith)
-sixes (_ ∷ _ ∷ _ ∷ _ ∷ _ ∷ _ ∷ bs) = let w = sixes bs in (omega (arith, w .0), omega (arith, w .1))
+-- a section that is not refused keeps the limit
+room : (e n : ℕ) (bs : List ℕ) → refusal e n bs ≡ 0 → n + length bs / size e ≤ limit
+unfolding refusal
+room e n bs z = go (eqb (length bs % size e) 0) (ltb limit (n + length bs / size e)) refl (hasZero (records (view e false bs))) (spareIn e bs) z
+  where
+    go : (x y : Bool) → ltb limit (n + length bs / size e) ≡ y → (z w : Bool) → _≡_ {A = ℕ} (cond x (cond y 7 (cond z 6 (cond w 14 0))) 5) 0
+        → n + length bs / size e ≤ limit
+    go true false q z w f = ltb-false limit (n + length bs / size e) q
+    go true true q z w f = absurd (omega arith)
+    go false y q z w f = absurd (omega arith)
+
+-- 6,000 bytes have 1,000 records, or 750
+least : (e : ℕ) (bs : List ℕ) → length bs ≡ 6000 → 750 ≤ length bs / size e
+unfolding size
+least e bs full = go (eqb e 2)
+  where
+    go : (x : Bool) → 750 ≤ length bs / cond x 8 6
+    go true = omega (arith, full)
+    go false = omega (arith, full)
 
 module _ (s : State) (bs : List ℕ) (full : length bs ≡ 6000) where
-  abbrev folded : State
-  folded = holding (s .header) (foldOf (chipOf (s .header)) (s .rank) (records bs))
+  counted : folded s bs .one .count ≡ s .one .count + length bs / size (s .edition)
+  counted =
+      let seen = view (s .edition) false bs in
+      omega (arith, all-more (chipOf (s .header)) (s .one) (records seen), length-records seen, view-count (s .edition) bs)
 
-  counted : folded .rank .count ≡ s .rank .count + 1000
-  counted = omega (arith, all-more (chipOf (s .header)) (s .rank) (records bs), sixes bs .0, sixes bs .1)
-
-  picked : (a b c d : Bool) → ltb limit (s .rank .count + length bs / 6) ≡ c
-      → (cond a (cond b (cond c (refuse 7 s) (cond d (refuse 6 s) (take folded))) (refuse 5 s)) (refuse 17 s)) .refused ≡ 0
-      → Full s (cond a (cond b (cond c (refuse 7 s) (cond d (refuse 6 s) (take folded))) (refuse 5 s)) (refuse 17 s) .state)
-  picked true true false false t z =
-      let room : s .rank .count + length bs / 6 ≤ limit = ltb-false limit (s .rank .count + length bs / 6) t in
-      record { more = counted; within = omega (arith, counted) }
-  picked true true false true t z = absurd (omega arith)
-  picked true true true d t z = absurd (omega arith)
-  picked true false c d t z = absurd (omega arith)
-  picked false b c d t z = absurd (omega arith)
+  picked : (a : Bool) (n : ℕ) → n ≡ refusal (s .edition) (s .one .count) bs → cond a (takenBy n s bs) (refuse 17 s) .refused ≡ 0
+      → Full s (cond a (takenBy n s bs) (refuse 17 s) .state)
+  picked false n e z = absurd (omega arith)
+  picked true n e z = elim (ℕ-discrete n 0) [
+    | no q ↦ absurd (q (rw (ne-eqb n 0 q) at z))
+    | yes q ↦
+        let fits = room (s .edition) (s .one .count) bs (sym e ∙ q) in
+        rw (eq-eqb n 0 q) (record { more = omega (arith, counted, least (s .edition) bs full); within = omega (arith, counted, fits) })
+  ]
 
   pub taken-full : sectionOf s bs .refused ≡ 0 → Full s (sectionOf s bs .state)
   unfolding sectionOf
-  taken-full z = picked (inRange s) (eqb (length bs % 6) 0) (ltb limit (s .rank .count + length bs / 6)) (hasZero (records bs)) refl z
+  taken-full z = picked (inRange s) (refusal (s .edition) (s .one .count) bs) refl z
 
 -- sections in turn, and there may be more: all were full, and taken
 pub record Filled (n : ℕ) (r : Run) (bs : List ℕ) : Type 0 where
   pub bytes : n * 6000 ≤ length bs
-  pub records : ranOver n r bs .state .rank .count ≡ r .state .rank .count + n * 1000
-  pub within : r .state .rank .count ≤ limit → ranOver n r bs .state .rank .count ≤ limit
+  pub records : r .state .one .count + n * 750 ≤ ranOver n r bs .state .one .count
+  pub within : r .state .one .count ≤ limit → ranOver n r bs .state .one .count ≤ limit
 
 pub filled : (n : ℕ) (r : Run) (bs : List ℕ) → ranOver n r bs .more ≡ true → Filled n r bs
 unfolding ranOver
@@ -100,7 +112,7 @@ filled (suc n) r bs h =
     let was = was-full (r .state) (firsts 6000 bs) (had-more n (after r bs) (drop 6000 bs) later) in
     let one = taken-full (r .state) (firsts 6000 bs) (was .1) (was .0) in
     let rest = filled n (after r bs) (drop 6000 bs) later in
-    let same : ranOver (suc n) r bs .state .rank .count ≡ ranOver n (after r bs) (drop 6000 bs) .state .rank .count = ap (λ (q : Run). q .state .rank .count) is in
+    let same : ranOver (suc n) r bs .state .one .count ≡ ranOver n (after r bs) (drop 6000 bs) .state .one .count = ap (λ (q : Run). q .state .one .count) is in
     record {
       bytes = omega (arith, rest .bytes, was .1, length-take 6000 bs, length-drop 6000 bs);
       records = omega (arith, same, rest .records, one .more);
@@ -108,17 +120,17 @@ filled (suc n) r bs h =
     }
 
 -- opening counts no record
-by-header : (p : Parsed) → openedBy p .state .rank .count ≡ 0
+by-header : (e : ℕ) (p : Parsed) → openedBy e p .state .one .count ≡ 0
 unfolding freshRank
-by-header (TakenHeader h) = refl
-by-header (Refused n) = refl
+by-header e (TakenHeader h) = refl
+by-header e (Refused n) = refl
 
-pub none-yet : (bs : List ℕ) → openOf bs .state .rank .count ≡ 0
+pub none-yet : (bs : List ℕ) → openOf bs .state .one .count ≡ 0
 unfolding openOf
-none-yet bs = by-header (parsedOf bs)
+none-yet bs = by-header (editionFor bs) (parsedOf (editionFor bs) bs)
 
-pub opened-none : (r : Run) → Opened r → r .state .rank .count ≡ 0
-opened-none r w = ap (λ (x : Run). x .state .rank .count) (w .2) ∙ none-yet (w .0)
+pub opened-none : (r : Run) → Opened r → r .state .one .count ≡ 0
+opened-none r w = ap (λ (x : Run). x .state .one .count) (w .2) ∙ none-yet (w .0)
 
 pub opened-by : {r : Run} (bs : List ℕ) → r ≡ openedRun bs → (n : ℕ) → n ≡ length bs → n ≤ 6 → Opened r
 opened-by bs e n size most = (bs, omega arith, e)

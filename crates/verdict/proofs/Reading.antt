@@ -14,19 +14,19 @@ use Rattle.header.specs.Bytes.{headerRefusal, parsedOf}
 use Rattle.judge.specs.Calls.{openOf}
 use Rattle.lines.specs.Line.{Printed}
 use Rattle.program.specs.declared.Run.{Run}
-use Rattle.program.specs.Answer.{answerLine}
-use Rattle.program.specs.Program.{openedRun, ranOver, programLine}
+use Rattle.program.specs.Answer.{answerLine, secondLine}
+use Rattle.program.specs.Program.{openedRun, ranOver, programLine, programSecond}
 use Rattle.program.proofs.Blocks.{stopped, still, in-turn, enough}
-use Rattle.verdict.specs.Reading.{Opened, Took, Ran, Judged, Told}
+use Rattle.verdict.specs.Reading.{Opened, Took, Ran, Judged, Told, ToldSecond}
 use Rattle.verdict.proofs.Counting.{filled}
 
 -- ── The loop over blocks ────────────────────────────────────────────────────────────────────
 
--- so many records were read, and the run is that of their sections; as long as there may be more, all blocks were full
+-- so many records were read at least, and the run is that of their sections; as long as there may be more, all blocks were full
 pub record Reads (start run : Run) (read : ℕ) : Type 0 where
   pub blocks : ℕ
   pub bytes : List ℕ
-  pub count : read ≡ blocks * 10000
+  pub count : read ≡ blocks * 7500
   pub same : run ≡ ranOver (blocks * 10) start bytes
   pub full : run .more ≡ true → length bytes ≡ blocks * 60000
 
@@ -45,7 +45,7 @@ module _ (start run : Run) (read : ℕ) (w : Reads start run read) where
   pub reads-test : (run .more && leb read 1048576) ≡ true → (run .more ≡ true) × (read ≤ 1048576)
   reads-test e = let both = and-eq-true-iff (run .more) (leb read 1048576) .0 e in (both .0, leb-true read 1048576 (both .1))
 
-  pub reads-turn : run .more ≡ true → (n : Run) → Took run n → Reads start n (read + 10000)
+  pub reads-turn : run .more ≡ true → (n : Run) → Took run n → Reads start n (read + 7500)
   reads-turn more n (bs, most, is) =
       let behind : length (w .bytes) ≡ w .blocks * 10 * 6000 = omega (arith, w .full more) in
       let ten : w .blocks * 10 + 10 ≡ (w .blocks + 1) * 10 = omega arith in
@@ -64,7 +64,7 @@ module _ (start run : Run) (read : ℕ) (w : Reads start run read) where
       }
 
   -- past the limit there is no more
-  over : start .state .rank .count ≡ 0 → (run .more && leb read 1048576) ≡ false → run .more ≡ false
+  over : start .state .one .count ≡ 0 → (run .more && leb read 1048576) ≡ false → run .more ≡ false
   over zero e = go (run .more) refl
     where
       go : (x : Bool) → run .more ≡ x → run .more ≡ false
@@ -74,7 +74,7 @@ module _ (start run : Run) (read : ℕ) (w : Reads start run read) where
           absurd (omega (arith, zero, past, w .count, all .records, all .within (omega (arith, zero))))
       go false h = h
 
-  pub reads-end : start .state .rank .count ≡ 0 → (run .more && leb read 1048576) ≡ false → Ran start run
+  pub reads-end : start .state .one .count ≡ 0 → (run .more && leb read 1048576) ≡ false → Ran start run
   reads-end zero e =
       let none = over zero e in
       let all = ended (length (w .bytes) + 1) start (w .bytes) (omega arith) in
@@ -118,4 +118,14 @@ told-by r (input, is) before after n p =
       ap (λ (bs : List ℕ). take n bs) (p .out)
           ∙ take-at line (drop (length line) before) n (sym (p .count))
           ∙ ap (λ (q : Run). answerLine (q .refused) (q .state)) is,
+    )
+
+pub told-second-by : (r : Run) → Judged r → (before after : List ℕ) (n : ℕ) → Printed (secondLine (r .refused) (r .state)) before n after → ToldSecond (take n after)
+unfolding programSecond
+told-second-by r (input, is) before after n p =
+    let line = secondLine (r .refused) (r .state) in (
+      input,
+      ap (λ (bs : List ℕ). take n bs) (p .out)
+          ∙ take-at line (drop (length line) before) n (sym (p .count))
+          ∙ ap (λ (q : Run). secondLine (q .refused) (q .state)) is,
     )

@@ -6,7 +6,7 @@ use mathlib.Core.Path.{_≡_}
 use mathlib.Core.List.{List}
 use lib.ListN.{length}
 use Rattle.program.specs.declared.Run.{Run}
-use Rattle.program.specs.Program.{openedRun, ranOver, programRun, programLine}
+use Rattle.program.specs.Program.{openedRun, ranOver, programRun, programLine, programSecond}
 
 -- opening some bytes, six at most
 abbrev pub Opened : Run → Type 0
@@ -20,9 +20,12 @@ Took start r = (bs : List ℕ) × (length bs ≤ 60000) × (r ≡ ranOver 10 sta
 abbrev pub Ran : Run → Run → Type 0
 Ran start r = (bs : List ℕ) × (r ≡ ranOver (length bs + 1) start bs)
 
--- all of some input, and its line
+-- all of some input, and its lines
 abbrev pub Judged : Run → Type 0
 Judged r = (input : List ℕ) × (r ≡ programRun input)
 
 abbrev pub Told : List ℕ → Type 0
 Told line = (input : List ℕ) × (line ≡ programLine input)
+
+abbrev pub ToldSecond : List ℕ → Type 0
+ToldSecond line = (input : List ℕ) × (line ≡ programSecond input)

@@ -1,4 +1,4 @@
-// Judges the recording that standard input holds and prints one line (01, P8): the first refusal, or the verdict at the last
+// Judges the recording that standard input holds and prints one line a rank (01, P8): the first refusal, or the verdict at the last
 // record's edge. The header is read first, then sections of 6,000 bytes, ten at a time, the last perhaps shorter.
 use judge::State;
 use libc::STDIN_FILENO;
@@ -8,10 +8,10 @@ use program::BLOCK;
 use program::Run;
 ghost use mathlib.Core.Path.{_≡_};
 ghost use lib.ListN.{length};
-ghost use Rattle.verdict.specs.Reading.{Opened, Took, Ran, Judged, Told};
+ghost use Rattle.verdict.specs.Reading.{Opened, Took, Ran, Judged, Told, ToldSecond};
 
-// A block's records.
-const RECORDS: u64 = 10000;
+// A block's records, at least: of edition 2.
+const RECORDS: u64 = 7500;
 
 fn main() {
     answer(judged());
@@ -35,7 +35,7 @@ fn opened() -> Run
 
 // Block after block, up to a refusal or the end of the input. Past the limit there was a refusal, so the loop ends.
 fn ran(start: Run) -> Run
-    requires { ⌜ start .state .rank .count ≡ 0 ⌝ }
+    requires { ⌜ start .state .one .count ≡ 0 ⌝ }
     ensures { λ r. ⌜ Ran start r ⌝ }
 {
     let mut run = start;
@@ -64,17 +64,25 @@ fn taken(run: Run, space: &mut [u8]) -> Run
     program::over(run, &space[..n])
 }
 
-// The line of what was judged.
+// The lines of what was judged, the first rank's first.
 fn answer(run: Run)
     requires { ⌜ Judged run ⌝ }
 {
     let mut text = [0u8; ROOM];
     let n = program::line(run, &mut text);
     print(&text[..n]);
+    let m = program::second_line(run, &mut text);
+    print_second(&text[..m]);
 }
 
 fn print(line: &[u8])
     requires { ⌜ Told (now line) ⌝ }
+{
+    io::write_all(STDOUT_FILENO, line);
+}
+
+fn print_second(line: &[u8])
+    requires { ⌜ ToldSecond (now line) ⌝ }
 {
     io::write_all(STDOUT_FILENO, line);
 }

@@ -14,7 +14,7 @@ use Rattle.program.proofs.line.Statement.{statement}
 use Rattle.program.proofs.line.Tie as tie
 
 -- nothing was refused: the line is that of closing
-closes : (s : State) {refused r : ℕ} {closed : Closed} {before after : List ℕ} → refused ≡ 0 → closed ≡ closeOf s (s .rank .edge)
+closes : (s : State) {refused r : ℕ} {closed : Closed} {before after : List ℕ} → refused ≡ 0 → closed ≡ closeOf s (s .one .edge)
     → Printed (closingLine closed) before r after → Printed (answerLine refused s) before r after
 unfolding answerLine
 closes s {r = r} {before = before} {after = after} none is p =

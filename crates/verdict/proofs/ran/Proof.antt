@@ -13,7 +13,7 @@ abbrev Inv-loop : tie.InvT-loop
 Inv-loop run₀ read₀ space₀ run read space = (length space ≡ 60000) × Reads run₀ run read
 
 abbrev μ-loop : tie.MeasureT-loop
-μ-loop run₀ read₀ space₀ run read space = 1058576 - read
+μ-loop run₀ read₀ space₀ run read space = 1056076 - read
 
 room-requires : tie.Need-room-requires Inv-loop μ-loop
 room-requires c κs = search needs

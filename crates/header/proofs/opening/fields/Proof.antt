@@ -16,10 +16,10 @@ cast-bin : tie.Need-cast-bin
 cast-bin c = search needs
 
 taken :
-    (w least : ℕ) (h : Header) → h ≡ headerOf w → edition w ≡ 1 → zeroA w ≡ 0 → zeroB w ≡ 0
-    → least ≡ binOf (bin w) .least → least ≤ period w → period w ≤ 3300 → Taken h ≡ fieldsOf w
+    (e w least : ℕ) (h : Header) → h ≡ headerOf w → edition w ≡ e → zeroA w ≡ 0 → zeroB w ≡ 0
+    → least ≡ binOf (bin w) .least → least ≤ period w → period w ≤ 3300 → Taken h ≡ fieldsOf e w
 unfolding fieldsOf fieldsRefusal
-taken w least h is one a b l under over =
+taken e w least h is one a b l under over =
     rw (eq-eqb _ _ one, eq-eqb _ _ a, eq-eqb _ _ b, ← l, le-ltb _ _ under, le-ltb _ _ over) (ap Taken is)
 
 returns : tie.Need-returns
@@ -52,7 +52,7 @@ header-requires c κs = search needs
 
 returns-6 : tie.Need-returns-6
 returns-6 c = let d = c .before .before .before .before in
-    taken _ _ _ (c .header .ensures) (d .before .before .if1 .left) (d .before .if2 .left) (rw div-one (d .if3 .left))
+    taken _ _ _ _ (c .header .ensures) (d .before .before .if1 .left) (d .before .if2 .left) (rw div-one (d .if3 .left))
     (c .before .before .before .least .ensures) (c .before .before .if4 .left) (c .before .if5 .left)
 
 pub fields-spec : {M : Type 1} → statement M

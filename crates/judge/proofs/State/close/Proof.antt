@@ -1,11 +1,11 @@
--- Checks 17 and 8; then the end.
+-- Checks 17 and 8; then the ends.
 -- Assumes nothing.
 use borrow.Author.Tests.{not-true, not-false}
 use mathlib.Core.Path.{sym, ap, _∙_}
 use Rattle.chip.specs.declared.Chip.{Chip}
 use Rattle.edges.specs.Ends.{endedOf}
 use Rattle.judge.specs.Calls.{closed, closeOf}
-use Rattle.judge.proofs.Ranging.{ends}
+use Rattle.judge.proofs.Ranging.{ends, second-ends}
 use borrow.Author.Needs.{needs}
 use Rattle.judge.proofs.State.close.Statement.{statement}
 use Rattle.judge.proofs.State.close.Tie as tie
@@ -35,15 +35,20 @@ chip-of-requires c κs = search needs
 end-requires : tie.Need-end-requires
 end-requires c κs = search needs
 
+second-end-requires : tie.Need-second-end-requires
+second-end-requires c κs = search needs
+
 returns-3 : tie.Need-returns-3
 unfolding closeOf
 returns-3 c =
-    let second = c .before .before in
+    let second = c .before .before .before in
     let first = second .before .before in
     let start = first .before .before in
     let range = sym (first .before .in-range .ensures) ∙ not-false _ (first .if1 .left) in
-    let made = ap (λ (C : Chip). endedOf C (start .args .self .rank) (start .args .end)) (c .before .chip-of .ensures) in
-    ap closed (c .end .ensures ∙ made ∙ ends (start .args .self) range (start .args .end) (second .if2 .left)) ∙ rw (range, second .if2 .left)
+    let made = ap (λ (C : Chip). endedOf C (start .args .self .one) (start .args .end)) (c .before .before .chip-of .ensures) in
+    let one = c .before .end .ensures ∙ made ∙ ends (start .args .self) range (start .args .end) (second .if2 .left) in
+    let two = c .second-end .ensures ∙ second-ends (start .args .self) range (start .args .end) (second .if2 .left) in
+    (λ i. closed (one i) (two i)) ∙ rw (range, second .if2 .left)
 
 pub close-spec : {M : Type 1} → statement M
 close-spec =
@@ -56,4 +61,5 @@ close-spec =
     returns-2
     chip-of-requires
     end-requires
+    second-end-requires
     returns-3)

@@ -1,4 +1,4 @@
--- The header's ranges, then the rank's.
+-- The header's ranges, then the ranks'.
 -- Assumes nothing.
 use Rattle.judge.specs.Ranges.{inRange}
 use borrow.Author.Needs.{needs}
@@ -11,9 +11,12 @@ trefi-requires c κs = search needs
 in-range-requires : tie.Need-in-range-requires
 in-range-requires c κs = search needs
 
+ranks-agree-requires : tie.Need-ranks-agree-requires
+ranks-agree-requires c κs = search needs
+
 returns : tie.Need-returns
 unfolding inRange
-returns c = simp (c .in-range .ensures, c .before .trefi .ensures)
+returns c = simp (c .ranks-agree .ensures, c .before .in-range .ensures, c .before .before .trefi .ensures)
 
 pub in-range-spec : {M : Type 1} → statement M
-in-range-spec = tie.close (tie.spec trefi-requires in-range-requires returns)
+in-range-spec = tie.close (tie.spec trefi-requires in-range-requires ranks-agree-requires returns)

@@ -1,4 +1,4 @@
--- The header, and a rank with no record.
+-- The header, and ranks with no record.
 -- Assumes nothing.
 use Prim.Native.Nat.{_+_}
 use native.Mathlib.Omega.{arith}
@@ -7,6 +7,7 @@ use mathlib.Core.Path.{ap, _∙_}
 use Rattle.units.specs.declared.Clocks.{Clocks}
 use Rattle.header.proofs.Bounds.{bounds}
 use Rattle.chip.specs.Chip.{chipOf}
+use Rattle.edges.specs.declared.Rank.{Rank}
 use Rattle.edges.specs.Ends.{freshRank}
 use Rattle.judge.specs.Calls.{holding}
 use borrow.Author.Needs.{needs}
@@ -28,9 +29,11 @@ holding-requires c κs = search needs
 returns : tie.Need-returns
 unfolding chipOf
 returns c =
+    let start = c .before .before .before in
     c .holding .ensures
-    ∙ ap (holding (c .before .before .before .args .h))
+    ∙ ap (λ (n : Rank). holding (start .args .h) (start .args .edition) n n)
     (c .before .fresh .ensures ∙ ap (λ (k : Clocks). freshRank true (k .clocks) (k .clocks + 1)) (c .before .before .ninerefi .ensures))
 
 pub start-spec : {M : Type 1} → statement M
-start-spec = tie.close (tie.spec ninerefi-requires add-fresh fresh-requires holding-requires returns)
+start-spec =
+    tie.close (tie.spec ninerefi-requires add-fresh fresh-requires holding-requires returns)

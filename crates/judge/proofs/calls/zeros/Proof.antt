@@ -1,4 +1,4 @@
--- No header, and a rank of zeros.
+-- No header, and ranks of zeros.
 -- Assumes nothing.
 use borrow.Author.Needs.{needs}
 use Rattle.judge.proofs.calls.zeros.Statement.{statement}

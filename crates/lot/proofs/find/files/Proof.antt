@@ -6,10 +6,10 @@ use Rattle.lot.proofs.find.files.Statement.{statement}
 use Rattle.lot.proofs.find.files.Tie as tie
 
 abbrev Inv-loop : tie.InvT-loop
-Inv-loop first end s₀ i₀ s i = Unit
+Inv-loop end s₀ i₀ s i = Unit
 
 abbrev μ-loop : tie.MeasureT-loop
-μ-loop first end s₀ i₀ s i = end - i
+μ-loop end s₀ i₀ s i = end - i
 
 loop-holds : tie.Need-loop-holds Inv-loop μ-loop
 loop-holds c = search needs

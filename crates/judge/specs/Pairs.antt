@@ -1,0 +1,60 @@
+-- Both ranks in a section of edition 2, whose records are narrowed and taken 1,000 at a time.
+-- Assumes nothing.
+use Prim.Native.Nat.{ℕ, _+_, _/_, _%_, _≤_}
+use mathlib.Core.Bool.{Bool, true, false, _||_}
+use mathlib.Core.List.{List}
+use mathlib.Core.Path.{_≡_}
+use lib.ListN.{length}
+use Rattle.records.specs.Record.{records, hasZero}
+use Rattle.wide.specs.Wide.{wides, hasSpare}
+use Rattle.wide.specs.Moved.{narrow}
+use Rattle.chip.specs.declared.Chip.{Chip}
+use Rattle.running.specs.Ranges.{limit, Small}
+use Rattle.edges.specs.declared.Rank.{Rank}
+use Rattle.edges.specs.Step.{foldOf}
+use Rattle.edges.specs.Ranges.{rankInRange}
+use Rattle.edges.specs.Ends.{takenOf}
+use Rattle.judge.specs.declared.State.{State}
+use Rattle.judge.specs.declared.Pair.{Pair}
+
+abbrev pub pairOf : (zero spare : Bool) → (one two : Rank) → Pair
+pairOf zero spare one two = record { zero = zero; spare = spare; one = one; two = two }
+
+-- before a section
+abbrev pub begunOf : State → Pair
+begunOf s = pairOf false false (s .one) (s .two)
+
+-- after a part of it, in the bytes that each rank sees
+abbrev pub nextOf : Chip → Pair → (first second : List ℕ) → Pair
+nextOf C p first second = record {
+  zero = takenOf C (p .one) first .zero;
+  spare = p .spare;
+  one = takenOf C (p .one) first .rank;
+  two = takenOf C (p .two) second .rank;
+}
+
+-- after all of its records, if no step is 0
+abbrev pub afterOf : Chip → Pair → (bytes : List ℕ) → Pair
+afterOf C p bs = record {
+  zero = false;
+  spare = p .spare || hasSpare (wides bs);
+  one = foldOf C (p .one) (records (narrow false bs));
+  two = foldOf C (p .two) (records (narrow true bs));
+}
+
+-- whether a step is 0, and if none is, what the section leads to
+pub record Took (C : Chip) (p : Pair) (bytes : List ℕ) (r : Pair) : Type 0 where
+  pub zero : r .zero ≡ hasZero (records (narrow false bytes))
+  pub after : r .zero ≡ false → r ≡ afterOf C p bytes
+
+-- what the section's records need of a rank, and of both
+pub record Fit (n : Rank) (bytes : List ℕ) : Type 0 where
+  pub range : rankInRange n ≡ true
+  pub room : n .count + length bytes / 8 ≤ limit
+
+pub record Ready (C : Chip) (p : Pair) (bytes : List ℕ) : Type 0 where
+  pub small : Small C
+  pub clear : p .zero ≡ false
+  pub eights : length bytes % 8 ≡ 0
+  pub first : Fit (p .one) bytes
+  pub second : Fit (p .two) bytes

@@ -1,0 +1,12 @@
+pub mod Spreading
+pub mod Words
+pub mod WideWords
+pub mod Wides
+pub mod Moving
+pub mod Returning
+pub mod Packing
+pub mod Loops
+pub mod Seeing
+pub mod Splitting
+pub mod Editions
+pub mod Answers

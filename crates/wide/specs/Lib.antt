@@ -1,0 +1,6 @@
+pub mod Spread
+pub mod Wide
+pub mod Moved
+pub mod Editions
+pub mod Seen
+pub mod Contracts

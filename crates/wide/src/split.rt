@@ -1,0 +1,42 @@
+// The records of edition 2 narrowed for both ranks in one pass: what the ranks see differs in one bit.
+use crate::Part;
+use crate::moved::fewer;
+use crate::moved::narrowed;
+use crate::moved::put6;
+use crate::word_at;
+ghost use mathlib.Core.Path.{_≡_};
+ghost use lib.ListN.{length, take};
+ghost use Rattle.wide.specs.Contracts.{SplitPart, Split};
+
+// Narrows the whole records from `at` on, 1,000 at most, to the fronts of one and two, as the first and as the second rank see them.
+pub fn split_part(bytes: &[u8], at: usize, one: &mut [u8; 6000], two: &mut [u8; 6000]) -> Part
+    ensures { λ r. ⌜ SplitPart (now (bytes .entry)) at (now (one .entry)) (now (two .entry)) r (now (one .exit)) (now (two .exit)) ⌝ }
+{
+    if bytes.len() < at {
+        return Part {
+            len: 0,
+            spare: false,
+        };
+    }
+    split_records(&bytes[at..], one, two)
+}
+
+fn split_records(bytes: &[u8], one: &mut [u8], two: &mut [u8]) -> Part
+    requires { ⌜ (length (now one) ≡ 6000) × (length (now two) ≡ 6000) ⌝ }
+    ensures { λ r. ⌜ Split (take 8000 (now (bytes .entry))) (now (one .entry)) (now (two .entry)) r (now (one .exit)) (now (two .exit)) ⌝ }
+{
+    let count = fewer(bytes.len() / 8, 1000);
+    let mut spare = false;
+    let mut i: usize = 0;
+    while i < count {
+        let w = word_at(bytes, 8 * i);
+        put6(one, 6 * i, narrowed(w, false));
+        put6(two, 6 * i, narrowed(w, true));
+        spare = spare | (w % 8192 != 0);
+        i += 1;
+    }
+    Part {
+        len: 6 * count,
+        spare: spare,
+    }
+}
