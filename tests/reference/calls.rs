@@ -1,18 +1,47 @@
 //! One call of an exported function, and the reference's answer to it.
 
 use crate::bursts::burst_order;
-use crate::header::{least_period, GREATEST_PERIOD};
-use crate::recording::{read_records, GREATEST_END, MOST_RECORDS};
+use crate::edition::{named_by, room, step, Edition, BOTH};
+use crate::header::{least_period, read_header, GREATEST_PERIOD};
+use crate::moves::{shifted, stays};
+use crate::recording::{GREATEST_END, MOST_RECORDS};
 use crate::registers::{allowed, register_reading};
 use crate::text::hex;
-use crate::verdict::{judge, verdict_bytes};
-use crate::{header::read_header, recording::Record};
+use crate::verdict::{all_bytes, judge};
 
 #[derive(Clone, Copy, Debug, PartialEq, Eq, PartialOrd, Ord)]
 pub enum Function {
     Judge,
     Register,
     Burst,
+    /// Judging a recording of edition 2.
+    Ranks,
+    Widen,
+    Narrow,
+}
+
+use Function::*;
+
+impl Function {
+    /// As harness.c counts them.
+    pub fn number(self) -> u64 {
+        match self {
+            Judge | Ranks => 1,
+            Register => 2,
+            Burst => 3,
+            Widen => 4,
+            Narrow => 5,
+        }
+    }
+
+    /// The editions that it takes.
+    fn editions(self) -> &'static [Edition] {
+        match self {
+            Judge | Ranks => &BOTH,
+            Register | Burst | Widen => &BOTH[..1],
+            Narrow => &BOTH[1..],
+        }
+    }
 }
 
 /// The data is a recording, a header, or nothing. The numbers are the end edge; number and code;
@@ -30,31 +59,59 @@ impl Call {
     pub fn answer(&self) -> Result<Vec<u8>, u32> {
         let [a, b, c, d] = self.numbers;
         match self.function {
-            Function::Judge => {
-                judge(&self.data, Some(a), self.lent).map(|closing| verdict_bytes(&closing.verdict).to_vec())
-            }
-            Function::Register => register_reading(&self.data, a as u32, b as u16, self.lent).map(|six| six.to_vec()),
-            Function::Burst => burst_order(a as u32, b as u32, c as u32, d as u32, self.lent),
+            Judge | Ranks => judge(&self.data, Some(a), self.lent).map(|closings| all_bytes(&closings)),
+            Register => register_reading(&self.data, a as u32, b as u16, self.lent).map(|six| six.to_vec()),
+            Burst => burst_order(a as u32, b as u32, c as u32, d as u32, self.lent),
+            Widen => shifted(Edition::One, &self.data, self.lent),
+            Narrow => shifted(Edition::Two, &self.data, self.lent),
+        }
+    }
+
+    /// The edition in which its records are read.
+    pub fn edition(&self) -> Edition {
+        match self.function {
+            Widen => Edition::One,
+            Narrow => Edition::Two,
+            _ => named_by(&self.data).unwrap_or(Edition::One),
+        }
+    }
+
+    fn section(&self) -> &[u8] {
+        self.data.get(6..).unwrap_or(&[])
+    }
+
+    /// The bytes that are written when nothing is refused.
+    fn wanted_room(&self) -> usize {
+        let records = self.section().len() / self.edition().size();
+        match self.function {
+            Judge | Ranks => room(&self.data),
+            Register => 6,
+            Burst => [4, 8].into_iter().find(|length| *length == self.numbers[0]).unwrap_or(4) as usize,
+            Widen => 6 + 8 * records,
+            Narrow => 6 + 6 * records,
         }
     }
 
     /// Every refusal whose condition holds, whatever else holds.
     pub fn conditions(&self) -> Vec<u32> {
         let [a, b, ..] = self.numbers;
+        let (edition, section) = (self.edition(), self.section());
         let mut held = match self.function {
-            Function::Judge => recording_conditions(&self.data, a),
-            Function::Register => header_conditions(&self.data, self.data.len() != 6),
-            Function::Burst => vec![],
+            Burst => vec![],
+            Register => header_conditions(&self.data, self.data.len() != 6, self.function.editions()),
+            _ => header_conditions(&self.data, self.data.len() < 6, self.function.editions()),
         };
-        let (too_short, last) = match self.function {
-            Function::Judge => (self.lent < 20, None),
-            Function::Register => (self.lent < 6, not_allowed(&self.data, a as u32, b as u16).then_some(11)),
-            Function::Burst => {
-                let known = a == 4 || a == 8;
-                ((self.lent as u64) < if known { a } else { 4 }, (!known || b > 7).then_some(10))
-            }
+        if !matches!(self.function, Register | Burst) {
+            held.extend(section_conditions(edition, section));
+        }
+        let last = match self.function {
+            Judge | Ranks => ((a as i64) < edition.last_edge(section) || a > GREATEST_END).then_some(8),
+            Register => not_allowed(&self.data, a as u32, b as u16).then_some(11),
+            Burst => ((a != 4 && a != 8) || b > 7).then_some(10),
+            Widen => None,
+            Narrow => stays(section).then_some(13),
         };
-        held.extend(too_short.then_some(9));
+        held.extend((self.lent < self.wanted_room()).then_some(9));
         held.extend(last);
         held
     }
@@ -63,17 +120,19 @@ impl Call {
     pub fn text(&self) -> String {
         let [a, b, c, d] = self.numbers;
         match self.function {
-            Function::Judge => format!("judge: {} {a} {}", hex(&self.data), self.lent),
-            Function::Register => format!("register: {} {a} {b:04x} {}", hex(&self.data), self.lent),
-            Function::Burst => format!("burst: {a} {b} {c} {d} {}", self.lent),
+            Judge | Ranks => format!("judge: {} {a} {}", hex(&self.data), self.lent),
+            Register => format!("register: {} {a} {b:04x} {}", hex(&self.data), self.lent),
+            Burst => format!("burst: {a} {b} {c} {d} {}", self.lent),
+            Widen => format!("widen: {} {}", hex(&self.data), self.lent),
+            Narrow => format!("narrow: {} {}", hex(&self.data), self.lent),
         }
     }
 }
 
 /// 1 as told; 2, 3 and 4 where the bytes that decide them are there.
-fn header_conditions(bytes: &[u8], wrong_length: bool) -> Vec<u32> {
+fn header_conditions(bytes: &[u8], wrong_length: bool, editions: &[Edition]) -> Vec<u32> {
     let byte = |place: usize| bytes.get(place).copied();
-    let edition = byte(0).is_some_and(|first| first >> 4 != 1);
+    let edition = byte(0).is_some() && !named_by(bytes).is_some_and(|named| editions.contains(&named));
     let zeros = [(1, 0x70), (3, 0xFF), (4, 0xFF), (5, 0xFF)];
     let not_zero = zeros.iter().any(|(place, mask)| byte(*place).is_some_and(|there| there & mask != 0));
     let period = match (byte(0), byte(1), byte(2)) {
@@ -87,16 +146,15 @@ fn header_conditions(bytes: &[u8], wrong_length: bool) -> Vec<u32> {
     held.iter().filter(|(_, holds)| *holds).map(|(refusal, _)| *refusal).collect()
 }
 
-fn recording_conditions(recording: &[u8], end: u64) -> Vec<u32> {
-    let mut held = header_conditions(recording, recording.len() < 6);
-    let section = recording.get(6..).unwrap_or(&[]);
-    let last: u64 = read_records(section).map(|record: Record| record.step as u64).sum();
-    let still = read_records(section).any(|record| record.step == 0);
-    held.extend((section.len() % 6 != 0).then_some(5));
-    held.extend((section.len() / 6 > MOST_RECORDS).then_some(7));
-    held.extend(still.then_some(6));
-    held.extend((end < last || end > GREATEST_END).then_some(8));
-    held
+/// 5, 7, 6 and 14.
+fn section_conditions(edition: Edition, section: &[u8]) -> Vec<u32> {
+    let held = [
+        (5, section.len() % edition.size() != 0),
+        (7, section.len() / edition.size() > MOST_RECORDS),
+        (6, edition.records(section).any(|record| step(record) == 0)),
+        (14, edition.has_zero_bits_set(section)),
+    ];
+    held.iter().filter(|(_, holds)| *holds).map(|(refusal, _)| *refusal).collect()
 }
 
 /// A register above 3 is none under any header; a code needs a header to be judged by.

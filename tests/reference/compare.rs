@@ -1,8 +1,10 @@
 //! The reference against the exported functions, on generated calls.
 
-use crate::calls::{Call, Function};
+use crate::calls::{Call, Function, Function::*};
 use crate::features::Features;
 use crate::harness::Harness;
+use crate::moving::Moved;
+use crate::ranks::Ranked;
 use crate::requests::call;
 use crate::shrink::shrink;
 use crate::tally::{Tally, ENOUGH_FOR_ALL};
@@ -32,9 +34,8 @@ fn smallest(harness: &mut Harness, call: &Call) -> Call {
     let mut best = call.clone();
     for end_at_last in [false, true] {
         let of = |data: &[u8]| {
-            let last: u64 =
-                data.chunks_exact(6).skip(1).map(|six| u32::from_be_bytes([0, six[0], six[1], six[2]]) as u64).sum();
-            let end = if end_at_last { last } else { call.numbers[0] };
+            let last = call.edition().last_edge(data.get(6..).unwrap_or(&[]));
+            let end = if end_at_last { last as u64 } else { call.numbers[0] };
             Call { data: data.to_vec(), numbers: [end, 0, 0, 0], ..call.clone() }
         };
         let mut differs = |data: &[u8]| {
@@ -42,32 +43,58 @@ fn smallest(harness: &mut Harness, call: &Call) -> Call {
             !matches!(difference(harness, &tried, &tried.answer()), Ok(None))
         };
         if differs(&best.data) {
-            best = of(&shrink(best.data.clone(), &mut differs));
+            best = of(&shrink(call.edition(), best.data.clone(), &mut differs));
         }
     }
     best
 }
 
 fn tell(harness: &mut Harness, call: &Call) -> Result<(), String> {
-    let small = if call.function == Function::Judge { smallest(harness, call) } else { call.clone() };
+    let short = matches!(call.function, Register | Burst);
+    let small = if short { call.clone() } else { smallest(harness, call) };
     let how = difference(harness, &small, &small.answer())?.unwrap_or_else(|| "  (only once)".to_string());
     println!("DIFFERS {}\n{how}", small.text());
     Ok(())
 }
 
+const FUNCTIONS: [Function; 6] = [Judge, Register, Burst, Ranks, Widen, Narrow];
+
+/// What the calls have shown.
+#[derive(Default)]
+struct Shown {
+    tally: Tally,
+    features: Features,
+    ranked: Ranked,
+    moved: Moved,
+}
+
+impl Shown {
+    fn add(&mut self, call: &Call, answer: &Result<Vec<u8>, u32>) {
+        self.tally.add(call, answer);
+        match (call.function, answer) {
+            (Judge, Ok(verdict)) => self.features.add(&call.data, call.numbers[0] as i64, verdict),
+            (Ranks, Ok(verdicts)) => self.ranked.add(&call.data, verdicts),
+            (Widen | Narrow, _) => self.moved.add(call, answer),
+            _ => {}
+        }
+    }
+
+    /// Prints what came; the list of what never came.
+    fn report(&self) -> Vec<String> {
+        [self.tally.report(), self.features.report(), self.ranked.report(), self.moved.report()].concat()
+    }
+}
+
 /// So many calls of each function; true if every answer is the same and every answer came.
 pub fn functions(seed: u64, count: u64, small: bool, words: &[&str]) -> Result<bool, String> {
     let mut harness = Harness::start(words)?;
-    let (mut tally, mut features) = (Tally::default(), Features::default());
+    let mut shown = Shown::default();
     let mut differences = 0;
-    for function in [Function::Judge, Function::Register, Function::Burst] {
+    for function in FUNCTIONS {
         for index in 0..count {
             let call = call(function, seed, index, small);
             let expected = call.answer();
-            tally.add(&call, &expected);
-            if let (Function::Judge, Ok(verdict)) = (function, &expected) {
-                features.add(&call.data, call.numbers[0] as i64, verdict);
-            }
+            shown.add(&call, &expected);
             if difference(&mut harness, &call, &expected)?.is_some() {
                 differences += 1;
                 tell(&mut harness, &call)?;
@@ -79,9 +106,21 @@ pub fn functions(seed: u64, count: u64, small: bool, words: &[&str]) -> Result<b
     }
     let ended = harness.end()?;
     let too_few = count < ENOUGH_FOR_ALL || small;
-    let missing = if too_few { vec![] } else { told([tally.report(), features.report()].concat()) };
-    println!("functions: {count} calls of each of three functions, seed {seed}: {differences} differ");
+    let missing = if too_few { vec![] } else { told(shown.report()) };
+    println!("functions: {count} calls of each of five functions, of judging in either edition, seed {seed}: {differences} differ");
     Ok(differences == 0 && ended && missing.is_empty())
+}
+
+/// So many calls of each function, answered by the reference alone; true if every answer came.
+pub fn came(seed: u64, count: u64) -> Result<bool, String> {
+    let mut shown = Shown::default();
+    for function in FUNCTIONS {
+        for index in 0..count {
+            let call = call(function, seed, index, false);
+            shown.add(&call, &call.answer());
+        }
+    }
+    Ok(told(shown.report()).is_empty())
 }
 
 fn told(missing: Vec<String>) -> Vec<String> {

@@ -20,7 +20,7 @@ pub fn count(seed: &str, count: &str, small: bool) -> Result<bool, String> {
         let case = case(seed, index, small);
         let (answer, records) = match judge(&case.recording, Some(case.end), case.lent) {
             Err(refusal) => ((2, refusal), case.recording.len() / 6),
-            Ok(closing) => match closing.verdict {
+            Ok(closings) => match closings[0].verdict {
                 Verdict::Clean { records, .. } => ((0, 0), records),
                 Verdict::Broken(broken) => ((1, broken.rule as u32), case.recording.len() / 6 - 1),
             },

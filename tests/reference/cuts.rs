@@ -1,22 +1,27 @@
 //! The reference against the program for cuts: a recording in sections, empty and refused ones in between, the verdict so
 //! far and the waiting times after each, and the picture at the end. crates/sections_run/src/main.rt tells the form of a case.
 
-use crate::damage::Case;
-use crate::generate::case;
-use crate::header::read_header;
+use crate::damage::{nop, Case};
+use crate::edition::{Edition, Edition::*};
+use crate::generate::{case, wide_case};
+use crate::header::Header;
 use crate::programs::printed;
 use crate::random::Random;
-use crate::recording::{section_refusal, MOST_RECORDS};
-use crate::text::{answer_text, hex};
-use crate::verdict::{judge, verdict_line, waits_after, Closing};
+use crate::recording::{open, section_refusal, MOST_RECORDS};
+use crate::text::{closing_text, hex};
+use crate::verdict::{judge, lines, verdict_line, waits_after};
 
 /// Each section with its line and the waiting times, and the whole picture.
 const PRINT_ALL: u8 = 4;
 const LAST_EDGE: u64 = (1 << 48) - 1;
 const LONGEST_HEADER: usize = 8;
 
+/// Lent enough for either edition.
+const ROOM: usize = 40;
+
 #[derive(Clone)]
 struct Cut {
+    edition: Edition,
     header: Vec<u8>,
     sections: Vec<Vec<u8>>,
     end: Option<u64>,
@@ -34,44 +39,49 @@ fn cut(random: &mut Random, case: &Case) -> Cut {
     let mut at = 0;
     while at < rest.len() {
         if random.chance(20) {
-            sections.push(odd_section(random, &rest[at..]));
+            sections.push(odd_section(random, case.edition, &rest[at..]));
         }
-        let next = rest.len().min(at + 6 * random.between(1, longest) as usize);
+        let next = rest.len().min(at + case.edition.size() * random.between(1, longest) as usize);
         sections.push(rest[at..next].to_vec());
         at = next;
     }
-    sections.push(odd_section(random, rest));
+    sections.push(odd_section(random, case.edition, rest));
     let end = random.chance(50).then_some(case.end).filter(|end| *end < LAST_EDGE);
-    Cut { header, sections, end }
+    Cut { edition: case.edition, header, sections, end }
 }
 
-/// Empty; with bytes left over (5); with a step of 0 (6); with both.
-fn odd_section(random: &mut Random, rest: &[u8]) -> Vec<u8> {
-    let mut section = rest[..rest.len().min(6 * random.between(1, 5) as usize) / 6 * 6].to_vec();
-    let kind = random.below(4);
+/// Empty; or one to three of these: bytes left over (5), a step of 0 (6), in edition 2 a zero bit that is set (14).
+fn odd_section(random: &mut Random, edition: Edition, rest: &[u8]) -> Vec<u8> {
+    let size = edition.size();
+    let mut section = rest[..rest.len().min(size * random.between(1, 5) as usize) / size * size].to_vec();
+    let kind = random.below(1 << 3);
     if kind == 0 || section.is_empty() {
         return vec![];
     }
-    if kind > 1 {
-        let place = 6 * random.below(section.len() as u64 / 6) as usize;
-        section[place..place + 3].fill(0);
+    let records = section.len() as u64 / size as u64;
+    let mut place = || size * random.below(records) as usize;
+    let (still, marked) = (place(), place());
+    if kind & 1 != 0 {
+        section[still..still + 3].fill(0);
     }
-    if kind != 2 {
-        section.extend((0..random.between(1, 5)).map(|_| 0x5A));
+    if kind & 2 != 0 && edition == Two {
+        section[marked + 7] |= 1 << random.below(8);
+    }
+    if kind & 4 != 0 || kind == 2 && edition == One {
+        section.extend((0..random.between(1, size as i64 - 1)).map(|_| 0x5A));
     }
     section
 }
 
 /// Sections up to the limit of records but for the last 64; then 65 records (7), 64, one more (7), none. The steps are long,
 /// so that the debt breaks at once and the reference has little to look back over.
-fn cut_at_the_limit() -> Cut {
-    const NOP: [u8; 6] = [0x10, 0, 0, 0xB8, 0, 0];
-    const LONGEST: usize = 65536 / 6;
-    let full = (MOST_RECORDS - 64) / LONGEST;
-    let rest = MOST_RECORDS - 64 - full * LONGEST;
-    let sizes = std::iter::repeat(LONGEST).take(full).chain([rest, 65, 64, 1, 0]);
-    let sections = sizes.map(|records| NOP.repeat(records)).collect();
-    Cut { header: vec![0x14, 0x05, 0xDC, 0, 0, 0], sections, end: None }
+fn cut_at_the_limit(edition: Edition) -> Cut {
+    let longest = 65536 / edition.size();
+    let full = (MOST_RECORDS - 64) / longest;
+    let rest = MOST_RECORDS - 64 - full * longest;
+    let sizes = std::iter::repeat(longest).take(full).chain([rest, 65, 64, 1, 0]);
+    let sections = sizes.map(|records| nop(edition).repeat(records)).collect();
+    Cut { edition, header: vec![edition.number() << 4 | 4, 0x05, 0xDC, 0, 0, 0], sections, end: None }
 }
 
 impl Cut {
@@ -87,27 +97,29 @@ impl Cut {
     }
 
     fn lines(&self) -> Vec<String> {
-        let opened = <&[u8; 6]>::try_from(&self.header[..]).map_err(|_| 1).and_then(read_header);
-        let header = match opened {
-            Ok(header) => header,
+        let (edition, header) = match open(&self.header) {
+            Ok(opened) => opened,
             Err(refusal) => return vec![format!("refused {refusal}")],
         };
         let mut taken = self.header.clone();
-        let mut lines = vec![];
+        let mut told = vec![];
         for section in &self.sections {
-            match section_refusal(section, taken.len() / 6 - 1) {
-                Some(refusal) => lines.push(format!("refused {refusal}")),
+            match section_refusal(edition, section, (taken.len() - 6) / edition.size()) {
+                Some(refusal) => told.push(format!("refused {refusal}")),
                 None => {
                     taken.extend(section);
-                    lines.push(line_of(&judge(&taken, None, 20)));
+                    told.extend(lines(&judge(&taken, None, ROOM)));
                 }
             }
-            lines.push(waits_line(&waits_after(&header, &taken[6..])));
+            told.extend(waits_lines(edition, &header, &taken[6..]));
         }
-        let closing = judge(&taken, self.end, 20);
-        let picture = answer_text(&closing);
-        lines.push(if closing.is_ok() { format!("{}\t{picture}", line_of(&closing)) } else { picture });
-        lines
+        match judge(&taken, self.end, ROOM) {
+            Ok(ranks) => {
+                told.extend(ranks.iter().map(|rank| format!("{}\t{}", verdict_line(&rank.verdict), closing_text(rank))))
+            }
+            Err(refusal) => told.push(format!("refused {refusal}")),
+        }
+        told
     }
 
     fn text(&self) -> String {
@@ -123,25 +135,22 @@ impl Cut {
             less
         });
         let places = self.sections.iter().enumerate();
-        let records = places.flat_map(|(place, section)| (0..section.len() / 6).map(move |number| (place, number)));
+        let size = self.edition.size();
+        let records = places.flat_map(|(place, section)| (0..section.len() / size).map(move |number| (place, number)));
         let without_record = records.map(|(place, number)| {
             let mut less = self.clone();
-            less.sections[place].drain(6 * number..6 * number + 6);
+            less.sections[place].drain(size * number..size * number + size);
             less
         });
         without_section.chain(without_record).find(|less| !matches!(difference(words, less), Ok(None)))
     }
 }
 
-fn line_of(answer: &Result<Closing, u32>) -> String {
-    match answer {
-        Ok(closing) => verdict_line(&closing.verdict),
-        Err(refusal) => format!("refused {refusal}"),
-    }
-}
-
-fn waits_line(waits: &[i64]) -> String {
-    waits.iter().map(i64::to_string).collect::<Vec<String>>().join(" ")
+/// A line a rank.
+fn waits_lines(edition: Edition, header: &Header, section: &[u8]) -> Vec<String> {
+    let of_rank = |rank| waits_after(header, &edition.seen_by(section, rank));
+    let line = |waits: Vec<i64>| waits.iter().map(i64::to_string).collect::<Vec<String>>().join(" ");
+    (0..edition.ranks()).map(of_rank).map(line).collect()
 }
 
 fn difference(words: &[&str], cut: &Cut) -> Result<Option<String>, String> {
@@ -149,11 +158,13 @@ fn difference(words: &[&str], cut: &Cut) -> Result<Option<String>, String> {
     Ok((text.trim_end() != expected).then(|| format!("reference\n{expected}\nproduct\n{text}")))
 }
 
-/// True if the program for cuts prints the reference's lines for every case, all of them in one process.
+/// True if the program for cuts prints the reference's lines for every case, all of them in one process; every second one is
+/// of edition 2.
 pub fn cuts(seed: u64, count: u64, words: &[&str]) -> Result<bool, String> {
     let mut random = Random::new(seed ^ 0xC075);
-    let mut cuts: Vec<Cut> = (0..count).map(|index| cut(&mut random, &case(seed, index, true))).collect();
-    cuts.push(cut_at_the_limit());
+    let made = |index| if index % 2 == 0 { case(seed, index, true) } else { wide_case(seed, index, true) };
+    let mut cuts: Vec<Cut> = (0..count).map(|index| cut(&mut random, &made(index))).collect();
+    cuts.extend([One, Two].map(cut_at_the_limit));
     let text = printed(words, &cuts.iter().flat_map(Cut::bytes).collect::<Vec<u8>>())?;
     let mut lines = text.lines();
     for cut in &cuts {
@@ -168,6 +179,8 @@ pub fn cuts(seed: u64, count: u64, words: &[&str]) -> Result<bool, String> {
     }
     let ended = lines.next().is_none();
     let sections: usize = cuts.iter().map(|cut| cut.sections.len()).sum();
-    println!("cuts: {count} recordings and one at the limit, in {sections} sections, seed {seed}: 0 differ");
+    println!(
+        "cuts: {count} recordings and one of each edition at the limit, in {sections} sections, seed {seed}: 0 differ"
+    );
     Ok(ended)
 }

@@ -1,45 +1,92 @@
 //! Damage to a good recording, and the faults that make it refused.
 
+use crate::edition::{step, Edition, Edition::*, Wide};
 use crate::header::{least_period, GREATEST_PERIOD};
 use crate::random::Random;
-use crate::recording::{read_records, Record, GREATEST_END, MOST_RECORDS};
+use crate::recording::{Record, GREATEST_END, MOST_RECORDS};
 
-/// A recording, its end edge, and the length of the buffer lent for its verdict.
+/// A recording made in this edition, its end edge, and the length of the buffer lent for its verdict.
 #[derive(Clone)]
 pub struct Case {
+    pub edition: Edition,
     pub recording: Vec<u8>,
     pub end: u64,
     pub lent: usize,
 }
 
 impl Case {
+    pub fn section(&self) -> &[u8] {
+        self.recording.get(6..).unwrap_or(&[])
+    }
+
     pub fn last_edge(&self) -> u64 {
-        let section = self.recording.get(6..).unwrap_or(&[]);
-        read_records(section).map(|record| record.step as u64).sum()
+        self.edition.last_edge(self.section()) as u64
+    }
+
+    pub fn count(&self) -> usize {
+        self.section().len() / self.edition.size()
+    }
+
+    /// Where the record with this number, from 0, stands.
+    fn place(&self, number: usize) -> std::ops::Range<usize> {
+        let start = 6 + self.edition.size() * number;
+        start..start + self.edition.size()
+    }
+
+    /// Some record's place; if there is none, that of a new NOP.
+    fn any_place(&mut self, random: &mut Random) -> std::ops::Range<usize> {
+        if self.count() == 0 {
+            self.recording.truncate(6);
+            self.recording.extend(nop(self.edition));
+        }
+        self.place(random.below(self.count() as u64) as usize)
+    }
+}
+
+/// A NOP for every rank, far behind the record before it.
+pub fn nop(edition: Edition) -> Vec<u8> {
+    let record = Record { step: 1 << 20, cke: true, pins: 0b0111, ba: 0, a: 0 };
+    match edition {
+        One => record.write().to_vec(),
+        Two => Wide { cs: [false; 2], ..Wide::of(&record) }.write().to_vec(),
     }
 }
 
 /// A field flipped, a record dropped, doubled, swapped, a spacing shortened.
 pub fn damage(random: &mut Random, case: &mut Case) {
-    let records = (case.recording.len() / 6).saturating_sub(1);
+    let (records, size) = (case.count(), case.edition.size());
     if records < 2 {
         return;
     }
-    let number = random.between(1, records as i64 - 1) as usize;
-    let place = 6 * number..6 * number + 6;
-    let six: [u8; 6] = case.recording[place.clone()].try_into().unwrap();
+    let place = case.place(random.between(0, records as i64 - 2) as usize);
+    let record = case.recording[place.clone()].to_vec();
     match random.below(6) {
-        0 => case.recording[place].copy_from_slice(&with_field_changed(random, &six)),
+        0 => case.recording[place].copy_from_slice(&with_field_changed(random, case.edition, &record)),
         1 => drop(case.recording.drain(place)),
-        2 => drop(case.recording.splice(place.start..place.start, six)),
-        3 => case.recording[place.start..place.end + 6].rotate_left(6),
-        4 => case.recording[place].copy_from_slice(&with_step_shortened(random, &six)),
+        2 => drop(case.recording.splice(place.start..place.start, record)),
+        3 => case.recording[place.start..place.end + size].rotate_left(size),
+        4 => case.recording[place].copy_from_slice(&with_step_shortened(random, &record)),
         _ => case.recording[place.start + random.below(6) as usize] ^= 1 << random.below(8),
     }
 }
 
-fn with_field_changed(random: &mut Random, six: &[u8; 6]) -> [u8; 6] {
-    let mut record = Record::read(six);
+/// One of edition 2 has its CS changed too, and its zero bits stay.
+fn with_field_changed(random: &mut Random, edition: Edition, record: &[u8]) -> Vec<u8> {
+    if edition == One {
+        return changed(random, Record::read(record)).write().to_vec();
+    }
+    let mut wide = Wide::read(record);
+    let rank = random.below(2) as usize;
+    if random.chance(30) {
+        wide.cs[rank] = !wide.cs[rank];
+        return wide.write().to_vec();
+    }
+    let Record { cke, pins, ba, a, .. } = changed(random, wide.seen_by(rank));
+    wide.cs[rank] = pins >> 3 == 1;
+    Wide { cke, command: pins & 0b111, ba, a, ..wide }.write().to_vec()
+}
+
+fn changed(random: &mut Random, mut record: Record) -> Record {
     match random.below(5) {
         0 => record.cke = !record.cke,
         1 => record.pins = random.below(16) as u8,
@@ -47,30 +94,50 @@ fn with_field_changed(random: &mut Random, six: &[u8; 6]) -> [u8; 6] {
         3 => record.a ^= 1 << random.pick(&[8, 10, 12]),
         _ => record.a = random.next() as u16,
     }
-    record.write()
+    record
 }
 
-fn with_step_shortened(random: &mut Random, six: &[u8; 6]) -> [u8; 6] {
-    let mut record = Record::read(six);
+fn with_step_shortened(random: &mut Random, record: &[u8]) -> Vec<u8> {
     let less = random.pick(&[1, 1, 2, 5, 20]);
-    record.step = (record.step - less).max(1);
-    record.write()
+    let step = (step(record) - less).max(1) as u32;
+    [&step.to_be_bytes()[1..], &record[3..]].concat()
 }
 
 /// Makes the refusal's condition hold, and leaves those of lower refusals. 0 does nothing.
 pub fn make_fault(random: &mut Random, case: &mut Case, refusal: u32) {
     match refusal {
         1 => case.recording.truncate(random.below(6) as usize),
-        2 => case.recording[0] = case.recording[0] & 0x0F | random.pick(&[0u8, 2, 3, 5, 9, 15]) << 4,
+        2 => set_edition(random, case, &[0, 3, 5, 9, 15]),
         3 => set_zero_field(random, &mut case.recording),
         4 => set_period_outside(random, &mut case.recording),
-        5 => case.recording.extend((0..random.between(1, 5)).map(|_| 0xA5)),
-        6 => zero_a_step(random, &mut case.recording),
-        7 => pass_the_limit(random, &mut case.recording),
+        5 => case.recording.extend((0..random.between(1, case.edition.size() as i64 - 1)).map(|_| 0xA5)),
+        6 => zero_a_step(random, case),
+        7 => pass_the_limit(random, case),
         8 => move_end_outside(random, case),
-        9 => case.lent = random.below(20) as usize,
+        9 => case.lent = random.below(20 * case.edition.ranks() as u64) as usize,
+        13 => keep_from_going_back(random, case),
+        14 => set_zero_bits(random, case),
         _ => {}
     }
+}
+
+pub fn set_edition(random: &mut Random, case: &mut Case, editions: &[u8]) {
+    case.recording[0] = case.recording[0] & 0x0F | random.pick(editions) << 4;
+}
+
+/// RESET, the second CS, ODT: one of them, or some.
+fn keep_from_going_back(random: &mut Random, case: &mut Case) {
+    let place = case.any_place(random);
+    let bits = random.pick(&[0x80, 0x10, 0x08, 0x90, 0x18, 0x98]);
+    case.recording[place.start + 3] ^= bits;
+}
+
+/// One of the 13 bits in some record of edition 2, or more of them.
+fn set_zero_bits(random: &mut Random, case: &mut Case) {
+    let place = case.any_place(random);
+    let bits = 1 << random.below(13) | random.pick(&[0, 0, 0, 0x1FFF]);
+    case.recording[place.start + 6] |= (bits >> 8) as u8;
+    case.recording[place.start + 7] |= bits as u8;
 }
 
 fn set_zero_field(random: &mut Random, recording: &mut [u8]) {
@@ -90,28 +157,23 @@ fn set_period_outside(random: &mut Random, recording: &mut [u8]) {
     recording[2] = period as u8;
 }
 
-fn zero_a_step(random: &mut Random, recording: &mut Vec<u8>) {
-    if recording.len() < 12 {
-        recording.splice(6..6, [0, 0, 0, 0xB8, 0, 0]);
-        return;
-    }
-    let number = random.between(1, recording.len() as i64 / 6 - 1) as usize;
-    recording[6 * number..6 * number + 3].fill(0);
+fn zero_a_step(random: &mut Random, case: &mut Case) {
+    let place = case.any_place(random);
+    case.recording[place][..3].fill(0);
 }
 
 /// NOPs in the middle of the section, far apart.
-fn fill_to(recording: &mut Vec<u8>, records: usize) {
-    let there = recording.len() / 6 - 1;
-    let nops = [0x10, 0, 0, 0xB8, 0, 0].repeat(records.saturating_sub(there));
-    recording.splice(6..6, nops);
+fn fill_to(case: &mut Case, records: usize) {
+    let nops = nop(case.edition).repeat(records.saturating_sub(case.count()));
+    case.recording.splice(6..6, nops);
 }
 
-fn pass_the_limit(random: &mut Random, recording: &mut Vec<u8>) {
-    fill_to(recording, MOST_RECORDS + random.pick(&[1, 1, 2, 1000]));
+fn pass_the_limit(random: &mut Random, case: &mut Case) {
+    fill_to(case, MOST_RECORDS + random.pick(&[1, 1, 2, 1000]));
 }
 
-pub fn fill_to_the_limit(recording: &mut Vec<u8>) {
-    fill_to(recording, MOST_RECORDS);
+pub fn fill_to_the_limit(case: &mut Case) {
+    fill_to(case, MOST_RECORDS);
 }
 
 fn move_end_outside(random: &mut Random, case: &mut Case) {

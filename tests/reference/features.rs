@@ -3,6 +3,7 @@
 use crate::banks::precharge_start;
 use crate::controller::SPACINGS;
 use crate::deadlines::{awake_at, debt_at};
+use crate::edition::Edition;
 use crate::header::Header;
 use crate::intervals;
 use crate::powerdown::{self, spacing_name};
@@ -200,7 +201,7 @@ fn break_of(verdict: &[u8]) -> Break {
 impl Features {
     /// A recording that is judged, its end edge, and its verdict's 20 bytes.
     pub fn add(&mut self, recording: &[u8], end: i64, verdict: &[u8]) {
-        let Ok((header, section)) = read_recording(recording) else { return };
+        let Ok((Edition::One, header, section)) = read_recording(recording) else { return };
         if section.len() / 6 > MOST_RECORDS {
             return;
         }
@@ -233,12 +234,16 @@ impl Features {
 
     /// Prints how many of the features came and the rarest; the list of those that never came.
     pub fn report(&self) -> Vec<String> {
-        let times = |name: &String| self.0.get(name).copied().unwrap_or(0);
-        let names = all();
-        let (missing, came): (Vec<String>, Vec<String>) = names.into_iter().partition(|name| times(name) == 0);
-        let rarest = came.iter().min_by_key(|name| times(name));
-        let rarest = rarest.map_or(String::new(), |name| format!("; the rarest, {name}: {} times", times(name)));
-        println!("features: {} of {} came{rarest}", came.len(), came.len() + missing.len());
-        missing
+        told("features", &self.0, all())
     }
+}
+
+/// Prints how many of these names came and the rarest; the list of those that never came.
+pub fn told(what: &str, counts: &BTreeMap<String, u64>, names: Vec<String>) -> Vec<String> {
+    let times = |name: &String| counts.get(name).copied().unwrap_or(0);
+    let (missing, came): (Vec<String>, Vec<String>) = names.into_iter().partition(|name| times(name) == 0);
+    let rarest = came.iter().min_by_key(|name| times(name));
+    let rarest = rarest.map_or(String::new(), |name| format!("; the rarest, {name}: {} times", times(name)));
+    println!("{what}: {} of {} came{rarest}", came.len(), came.len() + missing.len());
+    missing
 }

@@ -1,7 +1,9 @@
 //! The recordings: aimed at a rule or clean, damaged, malformed, noise.
 
+use crate::beside::{on_two_ranks, random_records};
 use crate::controller::{Controller, Temper};
 use crate::damage::{damage, fill_to_the_limit, make_fault, Case};
+use crate::edition::{Edition, Edition::*};
 use crate::header::Header;
 use crate::random::Random;
 use crate::recording::GREATEST_END;
@@ -24,37 +26,67 @@ const OVER_THE_LIMIT_EVERY: u64 = 250;
 const LONG_EVERY: u64 = 1000;
 
 /// Refusals that hold beside 7, in turn; 0 is 7 alone.
-const BESIDE_THE_LIMIT: [u32; 12] = [0, 2, 3, 4, 5, 6, 8, 9, 0, 6, 8, LIMIT_KEPT];
+const BESIDE_THE_LIMIT: [&[u32]; 2] =
+    [&[0, 2, 3, 4, 5, 6, 8, 9, 0, 6, 8, LIMIT_KEPT], &[0, 14, 3, 4, 5, 6, 8, 9, 14, 6, 8, LIMIT_KEPT]];
 const LIMIT_KEPT: u32 = 100;
 
-/// Faults of a recording of any length, in an order in which making one leaves those before it.
-const FAULTS: [u32; 8] = [2, 3, 4, 6, 5, 8, 9, 1];
+/// Faults of a recording of any length, by edition, in an order in which making one leaves those before it.
+const FAULTS: [&[u32]; 2] = [&[2, 3, 4, 6, 5, 8, 9, 1], &[3, 4, 6, 14, 5, 8, 9, 1]];
 
 /// Lent lengths that do, the least most often.
 const ENOUGH: [usize; 5] = [20, 20, 21, 24, 60];
 
-/// The case of this seed and index; `small` leaves out the recordings at and over the limit.
+fn enough(random: &mut Random, edition: Edition) -> usize {
+    random.pick(&ENOUGH) * edition.ranks()
+}
+
+/// The case of this seed and index, of edition 1; `small` leaves out the recordings at and over the limit.
 pub fn case(seed: u64, index: u64, small: bool) -> Case {
+    case_of(One, seed, index, small)
+}
+
+pub fn wide_case(seed: u64, index: u64, small: bool) -> Case {
+    case_of(Two, seed ^ 0x2ED1_7102, index, small)
+}
+
+fn case_of(edition: Edition, seed: u64, index: u64, small: bool) -> Case {
     let base = Random::new(seed).next();
     let mixed = Random::new(base ^ index.wrapping_mul(0xD134_2543_DE82_EF95)).next();
     let mut random = Random::new(mixed);
     if index % OVER_THE_LIMIT_EVERY == OVER_THE_LIMIT_EVERY - 1 && !small {
-        return around_the_limit(&mut random, index / OVER_THE_LIMIT_EVERY);
+        return around_the_limit(&mut random, edition, index / OVER_THE_LIMIT_EVERY);
     }
     if index % LONG_EVERY == LONG_EVERY / 2 {
         let length = random.between(1010, 1300) as usize;
         let rule = random.pick(&[0, 0, 4, 10, 14, 24, 31]);
-        return aimed(&mut random, rule, length, length - 5);
+        let narrow = aimed(&mut random, rule, length, length - 5);
+        return in_edition(&mut random, edition, narrow);
     }
     match random.weighted(&[70, 14, 11, 5]) {
-        0 => any_aimed(&mut random),
-        1 => damaged(&mut random),
-        2 => malformed(&mut random),
-        _ => noise(&mut random),
+        0 => any_aimed(&mut random, edition),
+        1 => damaged(&mut random, edition),
+        2 => malformed(&mut random, edition),
+        _ => noise(&mut random, edition),
     }
 }
 
-fn any_aimed(random: &mut Random) -> Case {
+/// As it is, or on one of two ranks with the other driven beside it.
+fn in_edition(random: &mut Random, edition: Edition, narrow: Case) -> Case {
+    match edition {
+        One => narrow,
+        Two => {
+            let lent = enough(random, Two);
+            Case { lent, ..on_two_ranks(random, &narrow) }
+        }
+    }
+}
+
+fn any_aimed(random: &mut Random, edition: Edition) -> Case {
+    let narrow = aimed_at_some_rule(random);
+    in_edition(random, edition, narrow)
+}
+
+fn aimed_at_some_rule(random: &mut Random) -> Case {
     let mut weights = [2; 32];
     weights[0] = 16;
     weights[NEVER_TOLD as usize] = 0;
@@ -71,7 +103,7 @@ fn any_aimed(random: &mut Random) -> Case {
     aimed(random, rule, length as usize, slip_after as usize)
 }
 
-fn temper_for(random: &mut Random, rule: u8) -> Temper {
+pub fn temper_for(random: &mut Random, rule: u8) -> Temper {
     let weights = match rule {
         2 | 5 => random.pick(&[CLOSING, ROWS, MIXED]),
         4..=9 => random.pick(&[ROWS, ROWS, MIXED]),
@@ -102,8 +134,12 @@ fn temper_for(random: &mut Random, rule: u8) -> Temper {
 }
 
 /// A clean recording (rule 0), or one in which some record breaks the rule and a few more follow.
-fn aimed(random: &mut Random, rule: u8, length: usize, slip_after: usize) -> Case {
+pub fn aimed(random: &mut Random, rule: u8, length: usize, slip_after: usize) -> Case {
     let header = header_for_rule(random, rule);
+    aimed_on(random, header, rule, length, slip_after)
+}
+
+pub fn aimed_on(random: &mut Random, header: Header, rule: u8, length: usize, slip_after: usize) -> Case {
     let temper = temper_for(random, rule);
     let mut controller = Controller::new(header, temper, Random::new(random.next()));
     let mut left = length + 40 * (rule != 0) as usize;
@@ -122,8 +158,8 @@ fn aimed(random: &mut Random, rule: u8, length: usize, slip_after: usize) -> Cas
         }
     }
     let end = end_for(random, &controller);
-    let lent = random.pick(&ENOUGH);
-    Case { recording: [&header_bytes(&header)[..], &controller.section].concat(), end, lent }
+    let lent = enough(random, One);
+    Case { edition: One, recording: [&header_bytes(&header)[..], &controller.section].concat(), end, lent }
 }
 
 /// The last record's edge, later, at the next deadline, much later, too early, 2^44, above it.
@@ -144,8 +180,8 @@ fn end_for(random: &mut Random, controller: &Controller) -> u64 {
     end.max(0) as u64
 }
 
-fn damaged(random: &mut Random) -> Case {
-    let mut case = any_aimed(random);
+fn damaged(random: &mut Random, edition: Edition) -> Case {
+    let mut case = any_aimed(random, edition);
     for _ in 0..random.pick(&[1, 1, 1, 2, 4]) {
         damage(random, &mut case);
     }
@@ -156,23 +192,27 @@ fn damaged(random: &mut Random) -> Case {
 }
 
 /// One to three refusals hold at once.
-fn malformed(random: &mut Random) -> Case {
+fn malformed(random: &mut Random, edition: Edition) -> Case {
     let rule = random.pick(&[0, 0, 1, 24, 25, 31]);
     let length = random.below(30) as usize;
-    let mut case = aimed(random, rule, length, 4);
-    let wanted: Vec<u32> = (0..random.pick(&[1, 2, 2, 2, 3])).map(|_| random.pick(&FAULTS)).collect();
+    let narrow = aimed(random, rule, length, 4);
+    let mut case = in_edition(random, edition, narrow);
+    let faults = FAULTS[edition.ranks() - 1];
+    let wanted: Vec<u32> = (0..random.pick(&[1, 2, 2, 2, 3])).map(|_| random.pick(faults)).collect();
     case.end = case.last_edge();
-    for fault in FAULTS.iter().filter(|fault| wanted.contains(fault)) {
+    for fault in faults.iter().filter(|fault| wanted.contains(fault)) {
         make_fault(random, &mut case, *fault);
     }
     case
 }
 
-fn around_the_limit(random: &mut Random, turn: u64) -> Case {
-    let mut case = aimed(random, 0, 20, 0);
-    let beside = BESIDE_THE_LIMIT[turn as usize % BESIDE_THE_LIMIT.len()];
+fn around_the_limit(random: &mut Random, edition: Edition, turn: u64) -> Case {
+    let narrow = aimed(random, 0, 20, 0);
+    let mut case = in_edition(random, edition, narrow);
+    let others = BESIDE_THE_LIMIT[edition.ranks() - 1];
+    let beside = others[turn as usize % others.len()];
     if beside == LIMIT_KEPT {
-        fill_to_the_limit(&mut case.recording);
+        fill_to_the_limit(&mut case);
         case.end = case.last_edge();
         return case;
     }
@@ -183,7 +223,7 @@ fn around_the_limit(random: &mut Random, turn: u64) -> Case {
 }
 
 /// Random bytes; random records after a good header; random records after a good start.
-fn noise(random: &mut Random) -> Case {
+fn noise(random: &mut Random, edition: Edition) -> Case {
     let kind = random.below(3);
     let mut recording: Vec<u8> = match kind {
         0 => (0..random.below(80)).map(|_| random.next() as u8).collect(),
@@ -191,16 +231,19 @@ fn noise(random: &mut Random) -> Case {
             let header: Header = random_header(random);
             header_bytes(&header).to_vec()
         }
-        _ => aimed(random, 0, 12, 0).recording,
-    };
-    if kind > 0 {
-        for _ in 0..random.below(40) {
-            let step = 1 + random.below(100) as u8;
-            let pins = random.next() as u8 | random.pick(&[0x80, 0x80, 0x80, 0]);
-            recording.extend([0, 0, step, pins, random.next() as u8, random.next() as u8]);
+        _ => {
+            let narrow = aimed(random, 0, 12, 0);
+            in_edition(random, edition, narrow).recording
         }
+    };
+    if let Some(first) = recording.first_mut().filter(|_| edition == Two || kind > 0) {
+        *first = edition.number() << 4 | *first & 15;
     }
-    let mut case = Case { recording, end: 0, lent: random.pick(&ENOUGH) };
+    if kind > 0 {
+        let count = random.below(40);
+        recording.extend(random_records(random, edition, count));
+    }
+    let mut case = Case { edition, recording, end: 0, lent: enough(random, edition) };
     case.end = case.last_edge() + random.pick(&[0, 0, 0, 1, 500]);
     case
 }

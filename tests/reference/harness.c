@@ -2,9 +2,9 @@
  * the archive and the reference talks to it.
  *
  * A request is eight numbers of eight bytes, the lowest byte first, and data:
- *     the function: 1 judge, 2 register, 3 burst
- *     the length of the data: the recording, the header, nothing
- *     four numbers: end; number and code; length, start, type, direction
+ *     the function: 1 judge, 2 register, 3 burst, 4 widen, 5 narrow
+ *     the length of the data: the recording, the header, nothing, the recording, the recording
+ *     four numbers: end; number and code; length, start, type, direction; nothing; nothing
  *     the lent length
  *     the fill: byte i of out is i * 37 + fill before the call, and the guard bytes go on in the same way
  * An answer is two such numbers, what was returned and how many bytes were altered that the function may not write (guard
@@ -21,7 +21,7 @@ void free(void *block);
 
 typedef unsigned long long number;
 
-enum { JUDGE = 1, REGISTER = 2, BURST = 3, NUMBERS = 8, WORD = 8, GUARD = 64 };
+enum { JUDGE = 1, REGISTER = 2, BURST = 3, WIDEN = 4, NARROW = 5, NUMBERS = 8, WORD = 8, GUARD = 64 };
 
 static size_t guard = GUARD;
 
@@ -120,6 +120,10 @@ static uint32_t call(const number *n, const uint8_t *data, uint8_t *out)
         return manilaply_judge(data, length, n[2], out, lent);
     if (n[0] == REGISTER)
         return manilaply_register(data, length, (uint32_t)n[2], (uint16_t)n[3], out, lent);
+    if (n[0] == WIDEN)
+        return manilaply_widen(data, length, out, lent);
+    if (n[0] == NARROW)
+        return manilaply_narrow(data, length, out, lent);
     return manilaply_burst((uint32_t)n[2], (uint32_t)n[3], (uint32_t)n[4], (uint32_t)n[5], out, lent);
 }
 

@@ -33,7 +33,7 @@ impl Harness {
         let [a, b, c, d] = call.numbers;
         self.turn += 1;
         let fill = self.turn * 101 % 256;
-        let numbers = [1 + call.function as u64, call.data.len() as u64, a, b, c, d, call.lent as u64, fill];
+        let numbers = [call.function.number(), call.data.len() as u64, a, b, c, d, call.lent as u64, fill];
         let request = [numbers.map(u64::to_le_bytes).concat(), call.data.clone()].concat();
         let ended = |e: std::io::Error| format!("the harness ended ({e}) at {}", call.text());
         self.requests.write_all(&request).map_err(ended)?;

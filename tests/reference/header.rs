@@ -1,5 +1,7 @@
 //! The six header bytes, refusals 1 to 4, and the clock counts of a header.
 
+use crate::edition::Edition;
+
 #[derive(Clone, Copy, Debug)]
 pub struct Header {
     pub bin: usize,
@@ -34,11 +36,11 @@ pub fn least_period(bin: usize) -> i64 {
     BINS[bin].least_period
 }
 
-/// The header in the first six bytes, or the first of refusals 2, 3, 4 that holds.
-pub fn read_header(bytes: &[u8; 6]) -> Result<Header, u32> {
+/// The header in the first six bytes, of one of these editions, or the first of refusals 2, 3, 4 that holds.
+pub fn read_header_of(editions: &[Edition], bytes: &[u8; 6]) -> Result<Header, u32> {
     let all = bytes.iter().fold(0u64, |number, byte| number << 8 | *byte as u64);
     let field = |lowest: u32, bits: u32| all >> lowest & ((1 << bits) - 1);
-    if field(44, 4) != 1 {
+    if !editions.iter().any(|edition| edition.number() as u64 == field(44, 4)) {
         return Err(2);
     }
     if field(36, 3) != 0 || field(0, 24) != 0 {
@@ -55,6 +57,11 @@ pub fn read_header(bytes: &[u8; 6]) -> Result<Header, u32> {
         return Err(4);
     }
     Ok(header)
+}
+
+/// One of edition 1.
+pub fn read_header(bytes: &[u8; 6]) -> Result<Header, u32> {
+    read_header_of(&[Edition::One], bytes)
 }
 
 /// A least time becomes T / period rounded up, a greatest time is rounded down.

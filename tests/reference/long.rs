@@ -11,9 +11,11 @@
 //! up for its first records.
 
 use crate::driver::{Driver, HEADER};
+use crate::edition::{Edition, Wide};
+use crate::moves::shifted;
 use crate::random::Random;
 use crate::settings::{allowed_code, header_bytes};
-use crate::verdict::program_line;
+use crate::verdict::program_lines;
 
 /// MR0 to MR3: burst by A12, CL 9, WR 10, DLL reset; AL CL-2; CWL 7; nothing.
 const CODES: [u16; 4] = [0x0B51, 0x0010, 0x0010, 0x0000];
@@ -146,9 +148,25 @@ pub fn long(kind: &str, seed: u64, records: usize) -> Result<Vec<u8>, String> {
         _ => return Err(format!("not a kind of long recording: {kind}")),
     };
     bytes.truncate(6 + 6 * records);
-    let line = program_line(&bytes[..bytes.len().min(6 + 6 * LOOKED_UP)]);
-    if records > 0 && !line.starts_with(expected) {
-        return Err(format!("{kind} begins otherwise: {line}"));
+    let lines = program_lines(&bytes[..bytes.len().min(6 + 6 * LOOKED_UP)]);
+    if records > 0 && !lines[0].starts_with(expected) {
+        return Err(format!("{kind} begins otherwise: {}", lines[0]));
+    }
+    Ok(bytes)
+}
+
+/// The same in edition 2: `both` drives the two ranks together, `turns` the first alone.
+pub fn long_and_wide(kind: &str, how: &str, seed: u64, records: usize) -> Result<Vec<u8>, String> {
+    let to_both = match how {
+        "both" => true,
+        "turns" => false,
+        _ => return Err(format!("not a way to drive two ranks: {how}")),
+    };
+    let mut bytes =
+        shifted(Edition::One, &long(kind, seed, records)?, usize::MAX).map_err(|n| format!("refused {n}"))?;
+    for eight in bytes[6..].chunks_mut(8).filter(|_| to_both) {
+        let wide = Wide::read(eight);
+        eight.copy_from_slice(&Wide { cs: [wide.cs[0]; 2], ..wide }.write());
     }
     Ok(bytes)
 }

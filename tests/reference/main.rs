@@ -5,10 +5,14 @@
 //! reference program                     lines "hex" to the program's line
 //! reference register                    lines "header number code [lent]" (hex, decimal, hex) to answers
 //! reference burst                       lines "length start type direction [lent]" to answers
-//! reference generate SEED COUNT [small] recordings, a line each: hex, end, lent
+//! reference widen, narrow               lines "hex [lent]" to answers
+//! reference generate SEED COUNT [small] recordings, a line each: hex, end, lent; `wide` for those of edition 2
+//! reference wide SEED COUNT [small]
 //! reference count SEED COUNT [small]    how often each answer comes
 //! reference long KIND SEED RECORDS      a long recording, as bytes: rounds, mix, modes, idle, broken, naps
+//! reference long KIND SEED RECORDS HOW  the same in edition 2: both, both ranks together, or turns, the first alone
 //! reference rounds SEED RECORDS         that of the rounds
+//! reference came SEED COUNT             what comes among so many calls of each function
 //! reference functions SEED COUNT WORDS  compares the C harness that WORDS start; `few` for COUNT's small ones only
 //! reference few SEED COUNT WORDS
 //! reference programs SEED COUNT WORDS   compares the program, a process for each recording
@@ -18,6 +22,7 @@
 //! recordings at the limit of records.
 
 mod banks;
+mod beside;
 mod bursts;
 mod calls;
 mod compare;
@@ -28,6 +33,7 @@ mod cuts;
 mod damage;
 mod deadlines;
 mod driver;
+mod edition;
 mod features;
 mod gaps;
 mod generate;
@@ -35,11 +41,14 @@ mod harness;
 mod header;
 mod intervals;
 mod long;
+mod moves;
+mod moving;
 mod naps;
 mod powerdown;
 mod programs;
 mod proposals;
 mod random;
+mod ranks;
 mod recording;
 mod registers;
 mod requests;
@@ -53,6 +62,8 @@ mod vectors;
 mod verdict;
 mod waits;
 
+use damage::Case;
+use edition::Edition;
 use std::io::{stdin, stdout, BufRead, BufWriter, Write};
 use std::process::ExitCode;
 
@@ -76,12 +87,18 @@ fn done(words: &[&str]) -> Result<bool, String> {
         ["program"] => answer_lines(program_answer),
         ["register"] => answer_lines(register_line),
         ["burst"] => answer_lines(burst_line),
-        ["generate", seed, count] => generate(seed, count, false),
-        ["generate", seed, count, "small"] => generate(seed, count, true),
+        ["widen"] => answer_lines(|words| move_line(Edition::One, words)),
+        ["narrow"] => answer_lines(|words| move_line(Edition::Two, words)),
+        ["generate", seed, count] => generate(generate::case, seed, count, false),
+        ["generate", seed, count, "small"] => generate(generate::case, seed, count, true),
+        ["wide", seed, count] => generate(generate::wide_case, seed, count, false),
+        ["wide", seed, count, "small"] => generate(generate::wide_case, seed, count, true),
         ["count", seed, count] => count::count(seed, count, false),
         ["count", seed, count, "small"] => count::count(seed, count, true),
         ["long", kind, seed, records] => long(kind, seed, records),
+        ["long", kind, seed, records, how] => long_and_wide(kind, how, seed, records),
         ["rounds", seed, records] => long("rounds", seed, records),
+        ["came", seed, count] => compare::came(number(seed)?, number(count)?),
         ["functions", seed, count, ref words @ ..] => compare::functions(number(seed)?, number(count)?, false, words),
         ["few", seed, count, ref words @ ..] => compare::functions(number(seed)?, number(count)?, true, words),
         ["programs", seed, count, ref words @ ..] => programs::programs(number(seed)?, number(count)?, words),
@@ -107,7 +124,7 @@ fn number<T: std::str::FromStr>(text: &str) -> Result<T, String> {
 
 fn judge_line(words: &[&str]) -> Result<String, String> {
     let (recording, end, lent) = match *words {
-        [recording, end] => (recording, end, 20),
+        [recording, end] => (recording, end, 40),
         [recording, end, lent] => (recording, end, number(lent)?),
         _ => return Err("not a line: hex end [lent]".into()),
     };
@@ -117,13 +134,22 @@ fn judge_line(words: &[&str]) -> Result<String, String> {
 
 fn program_answer(words: &[&str]) -> Result<String, String> {
     match *words {
-        [recording, ..] => Ok(verdict::program_line(&text::bytes_of_hex(recording)?)),
+        [recording, ..] => Ok(verdict::program_lines(&text::bytes_of_hex(recording)?).join(" ; ")),
         [] => Err("not a line: hex".into()),
     }
 }
 
 fn bytes_or_refusal(answer: Result<Vec<u8>, u32>) -> String {
     answer.map_or_else(|refusal| format!("refused {refusal}"), |bytes| text::hex(&bytes))
+}
+
+fn move_line(from: Edition, words: &[&str]) -> Result<String, String> {
+    let (recording, lent) = match *words {
+        [recording] => (recording, usize::MAX),
+        [recording, lent] => (recording, number(lent)?),
+        _ => return Err("not a line: hex [lent]".into()),
+    };
+    Ok(bytes_or_refusal(moves::shifted(from, &text::bytes_of_hex(recording)?, lent)))
 }
 
 fn register_line(words: &[&str]) -> Result<String, String> {
@@ -153,10 +179,15 @@ fn long(kind: &str, seed: &str, records: &str) -> Result<bool, String> {
     stdout().write_all(&bytes).map(|_| true).map_err(|e| e.to_string())
 }
 
-fn generate(seed: &str, count: &str, small: bool) -> Result<bool, String> {
+fn long_and_wide(kind: &str, how: &str, seed: &str, records: &str) -> Result<bool, String> {
+    let bytes = long::long_and_wide(kind, how, number(seed)?, number(records)?)?;
+    stdout().write_all(&bytes).map(|_| true).map_err(|e| e.to_string())
+}
+
+fn generate(make: fn(u64, u64, bool) -> Case, seed: &str, count: &str, small: bool) -> Result<bool, String> {
     let mut out = BufWriter::new(stdout().lock());
     for index in 0..number(count)? {
-        let case = generate::case(number(seed)?, index, small);
+        let case = make(number(seed)?, index, small);
         writeln!(out, "{} {} {}", text::hex(&case.recording), case.end, case.lent).map_err(|e| e.to_string())?;
     }
     out.flush().map_err(|e| e.to_string())?;

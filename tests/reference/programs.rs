@@ -1,9 +1,10 @@
 //! The reference against the program: a process for each recording, held to its line.
 
-use crate::generate::case;
+use crate::edition::{named_by, Edition};
+use crate::generate::{case, wide_case};
 use crate::shrink::shrink;
 use crate::text::hex;
-use crate::verdict::program_line;
+use crate::verdict::program_lines;
 use std::io::Write;
 use std::process::{Command, Stdio};
 use std::thread;
@@ -25,18 +26,19 @@ pub fn printed(words: &[&str], input: &[u8]) -> Result<String, String> {
 }
 
 fn differs(words: &[&str], recording: &[u8]) -> Result<Option<String>, String> {
-    let (line, text) = (program_line(recording), printed(words, recording)?);
-    Ok((text != format!("{line}\n")).then(|| format!("  reference {line}\n  product   {}", text.trim_end())))
+    let (lines, text) = (program_lines(recording).join("\n"), printed(words, recording)?);
+    Ok((text != format!("{lines}\n")).then(|| format!("  reference {lines}\n  product   {}", text.trim_end())))
 }
 
-/// True if the program prints the reference's line for every recording.
+/// True if the program prints the reference's lines for every recording; every second one is of edition 2.
 pub fn programs(seed: u64, count: u64, words: &[&str]) -> Result<bool, String> {
     let mut differences = 0;
     for index in 0..count {
-        let recording = case(seed, index, true).recording;
+        let recording = if index % 2 == 0 { case(seed, index, true) } else { wide_case(seed, index, true) }.recording;
         if differs(words, &recording)?.is_some() {
             differences += 1;
-            let small = shrink(recording, &mut |left| !matches!(differs(words, left), Ok(None)));
+            let edition = named_by(&recording).unwrap_or(Edition::One);
+            let small = shrink(edition, recording, &mut |left| !matches!(differs(words, left), Ok(None)));
             println!("DIFFERS program: {}\n{}", hex(&small), differs(words, &small)?.unwrap_or_default());
         }
     }

@@ -1,7 +1,8 @@
 //! A recording's bytes as records, and a record with its past as an event.
 
 use crate::banks::none_open;
-use crate::header::{read_header, Header};
+use crate::edition::{named_by, step, Edition, BOTH};
+use crate::header::{read_header_of, Header};
 use crate::registers::Registers;
 
 pub const MOST_RECORDS: usize = 1_048_576;
@@ -187,29 +188,36 @@ pub fn read_records(section: &[u8]) -> impl Iterator<Item = Record> + '_ {
     section.chunks_exact(6).map(Record::read)
 }
 
-/// What a section is refused for, given the number of records before it: 5, 7, 6 in this order.
-pub fn section_refusal(section: &[u8], before: usize) -> Option<u32> {
-    if section.len() % 6 != 0 {
+/// What a section is refused for, given the number of records before it: 5, 7, 6, 14 in this order.
+pub fn section_refusal(edition: Edition, section: &[u8], before: usize) -> Option<u32> {
+    if section.len() % edition.size() != 0 {
         return Some(5);
     }
-    if before + section.len() / 6 > MOST_RECORDS {
+    if before + section.len() / edition.size() > MOST_RECORDS {
         return Some(7);
     }
-    if read_records(section).any(|record| record.step == 0) {
+    if edition.records(section).any(|record| step(record) == 0) {
         return Some(6);
     }
-    None
+    edition.has_zero_bits_set(section).then_some(14)
 }
 
-/// A whole recording, taken: refusals 1, 2, 3, 4, 5, 7, 6 in this order do not hold.
-pub fn read_recording(recording: &[u8]) -> Result<(Header, &[u8]), u32> {
+/// The edition and the header that opening takes, or the first of refusals 1, 2, 3, 4 that holds.
+pub fn open(header: &[u8]) -> Result<(Edition, Header), u32> {
+    let six: &[u8; 6] = header.try_into().map_err(|_| 1u32)?;
+    let header = read_header_of(&BOTH, six)?;
+    named_by(six).map(|edition| (edition, header)).ok_or(2)
+}
+
+/// A whole recording, taken: refusals 1, 2, 3, 4, 5, 7, 6, 14 in this order do not hold.
+pub fn read_recording(recording: &[u8]) -> Result<(Edition, Header, &[u8]), u32> {
     if recording.len() < 6 {
         return Err(1);
     }
     let (first_six, section) = recording.split_at(6);
-    let header = read_header(first_six.try_into().unwrap())?;
-    match section_refusal(section, 0) {
+    let (edition, header) = open(first_six)?;
+    match section_refusal(edition, section, 0) {
         Some(refusal) => Err(refusal),
-        None => Ok((header, section)),
+        None => Ok((edition, header, section)),
     }
 }

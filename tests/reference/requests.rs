@@ -1,8 +1,10 @@
 //! The calls that are compared: judging a generated recording, register reading, burst order.
 
 use crate::calls::{Call, Function};
-use crate::damage::{make_fault, Case};
-use crate::generate::case;
+use crate::damage::{make_fault, set_edition, Case};
+use crate::edition::Edition::One;
+use crate::generate::{case, wide_case};
+use crate::moving::move_call;
 use crate::random::Random;
 use crate::registers::allowed;
 use crate::settings::{allowed_code, header_bytes, random_header};
@@ -12,14 +14,16 @@ fn source(seed: u64, index: u64, function: Function) -> Random {
     Random::new(Random::new(mixed ^ index.wrapping_mul(0xD134_2543_DE82_EF95)).next())
 }
 
-pub fn judge_call(case: &Case) -> Call {
-    Call { function: Function::Judge, data: case.recording.clone(), numbers: [case.end, 0, 0, 0], lent: case.lent }
+fn judge_call(function: Function, case: Case) -> Call {
+    Call { function, data: case.recording, numbers: [case.end, 0, 0, 0], lent: case.lent }
 }
 
 pub fn call(function: Function, seed: u64, index: u64, small: bool) -> Call {
     let mut random = source(seed, index, function);
     match function {
-        Function::Judge => judge_call(&case(seed, index, small)),
+        Function::Judge => judge_call(function, case(seed, index, small)),
+        Function::Ranks => judge_call(function, wide_case(seed, index, small)),
+        Function::Widen | Function::Narrow => move_call(&mut random, function, index, small),
         Function::Register => register_call(&mut random),
         Function::Burst => burst_call(&mut random),
     }
@@ -42,12 +46,13 @@ fn register_call(random: &mut Random) -> Call {
     let count = random.pick(&[0, 0, 0, 1, 2, 2, 3]);
     let wanted: Vec<u32> = (0..count).map(|_| random.pick(&FAULTS)).collect();
     let lent = random.pick(&[6, 6, 7, 8, 20]);
-    let mut case = Case { recording: header_bytes(&header).to_vec(), end: 0, lent };
+    let mut case = Case { edition: One, recording: header_bytes(&header).to_vec(), end: 0, lent };
     for fault in FAULTS.iter().filter(|fault| wanted.contains(fault)) {
         match fault {
             11 if random.chance(50) => number = random.pick(&[4, 5, 7, 255, 256, 65536, u32::MAX]),
             11 if number == 3 || allowed(&header, number, code) => code |= 0x8000,
             11 => {}
+            2 => set_edition(random, &mut case, &[0, 2, 2, 3, 5, 9, 15]),
             9 => case.lent = random.below(6) as usize,
             1 => case.recording.resize(random.pick(&[0, 1, 2, 3, 4, 5, 7, 8, 12]), 0),
             _ => make_fault(random, &mut case, *fault),

@@ -39,7 +39,7 @@ pub fn slip(controller: &mut Controller, rule: u8) -> bool {
     too_soon_for(controller, record, rule)
 }
 
-fn would_break(controller: &Controller, record: &Record, edge: i64) -> Option<u8> {
+pub fn would_break(controller: &Controller, record: &Record, edge: i64) -> Option<u8> {
     let mut past = controller.past.clone();
     past.push(Event::after(&past, &Record { step: edge - controller.now(), ..*record }));
     broken_at(&controller.header, &past, edge).map(|broken| broken.rule)

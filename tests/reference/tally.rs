@@ -12,11 +12,17 @@ pub const ENOUGH_FOR_ALL: u64 = 20000;
 pub const NEVER_TOLD: u8 = 28;
 
 /// Refusals in the order in which they are checked.
-const CHECKS: [(Function, &[u32]); 3] =
-    [(Judge, &[9, 1, 2, 3, 4, 5, 7, 6, 8]), (Register, &[9, 1, 2, 3, 4, 11]), (Burst, &[10, 9])];
+const CHECKS: [(Function, &[u32]); 6] = [
+    (Judge, &[9, 1, 2, 3, 4, 5, 7, 6, 8]),
+    (Register, &[9, 1, 2, 3, 4, 11]),
+    (Burst, &[10, 9]),
+    (Ranks, &[9, 1, 3, 4, 5, 7, 6, 14, 8]),
+    (Widen, &[1, 2, 3, 4, 5, 7, 6, 9]),
+    (Narrow, &[1, 2, 3, 4, 5, 7, 6, 14, 13, 9]),
+];
 
 /// A recording too short for a header has no records.
-const NEVER_BOTH: [(u32, u32); 3] = [(1, 5), (1, 7), (1, 6)];
+const NEVER_BOTH: [(u32, u32); 5] = [(1, 5), (1, 7), (1, 6), (1, 14), (1, 13)];
 
 #[derive(Default)]
 pub struct Tally {
@@ -24,30 +30,50 @@ pub struct Tally {
     both: BTreeMap<(Function, u32, u32), u64>,
 }
 
-fn name_of(call: &Call, answer: &Result<Vec<u8>, u32>) -> String {
-    match (answer, call.function) {
+/// What a call's answer is called; of two ranks, what each one's is.
+fn names_of(call: &Call, answer: &Result<Vec<u8>, u32>) -> Vec<String> {
+    vec![match (answer, call.function) {
         (Err(refusal), Register) if refusal % 256 == 11 => {
             format!("refused 11, {}", bit_name(call.numbers[0] as u32, refusal / 256))
         }
         (Err(refusal), _) => format!("refused {refusal}"),
-        (Ok(bytes), Judge) if bytes[0] == 0 => "clean".to_string(),
-        (Ok(bytes), Judge) => format!("rule {}", bytes[1]),
+        (Ok(bytes), Judge) => verdict_name(bytes),
+        (Ok(bytes), Ranks) => {
+            return (1..).zip(bytes.chunks(20)).map(|(rank, own)| of_rank(rank, verdict_name(own))).collect()
+        }
         (Ok(_), Register) => format!("MR{}", call.numbers[0]),
         (Ok(bytes), Burst) => {
             let [_, start, kind, direction] = call.numbers;
             format!("{} words from {start}, type {}, direction {}", bytes.len(), kind.min(1), direction.min(1))
         }
+        (Ok(_), Widen | Narrow) => "moved".to_string(),
+    }]
+}
+
+fn verdict_name(bytes: &[u8]) -> String {
+    if bytes[0] == 0 {
+        "clean".to_string()
+    } else {
+        format!("rule {}", bytes[1])
     }
+}
+
+fn of_rank(rank: usize, name: String) -> String {
+    format!("rank {rank} {name}")
+}
+
+fn verdict_names() -> impl Iterator<Item = String> {
+    let rules = (1..=31).filter(|rule| *rule != NEVER_TOLD);
+    std::iter::once("clean".to_string()).chain(rules.map(|rule| format!("rule {rule}")))
 }
 
 /// Every answer that a function has, refusals first.
 fn all_names(function: Function, checks: &[u32]) -> Vec<String> {
     let refusals = checks.iter().filter(|refusal| **refusal != 11).map(|refusal| format!("refused {refusal}"));
     let taken: Vec<String> = match function {
-        Judge => {
-            let rules = (1..=31).filter(|rule| *rule != NEVER_TOLD);
-            std::iter::once("clean".to_string()).chain(rules.map(|rule| format!("rule {rule}"))).collect()
-        }
+        Judge => verdict_names().collect(),
+        Ranks => [1, 2].into_iter().flat_map(|rank| verdict_names().map(move |name| of_rank(rank, name))).collect(),
+        Widen | Narrow => vec!["moved".to_string()],
         Register => {
             let bits = all_bit_names().map(|name| format!("refused 11, {name}"));
             bits.chain((0..4).map(|number| format!("MR{number}"))).collect()
@@ -69,7 +95,9 @@ fn all_pairs(function: Function, checks: &'static [u32]) -> impl Iterator<Item =
 
 impl Tally {
     pub fn add(&mut self, call: &Call, answer: &Result<Vec<u8>, u32>) {
-        *self.answers.entry((call.function, name_of(call, answer))).or_default() += 1;
+        for name in names_of(call, answer) {
+            *self.answers.entry((call.function, name)).or_default() += 1;
+        }
         let held = call.conditions();
         for (place, a) in held.iter().enumerate() {
             for b in &held[place + 1..] {

@@ -2,7 +2,7 @@
 
 use crate::banks::Bank;
 use crate::registers::Registers;
-use crate::verdict::{verdict_bytes, Closing};
+use crate::verdict::{all_bytes, lines, verdict_bytes, Closing};
 
 /// An empty recording is written "-".
 pub fn hex(bytes: &[u8]) -> String {
@@ -51,15 +51,27 @@ pub fn registers_text(registers: &Registers) -> String {
     registers.0.iter().map(text).collect::<Vec<_>>().join(" ")
 }
 
-pub fn answer_text(answer: &Result<Closing, u32>) -> String {
-    match answer {
-        Err(refusal) => format!("refused {refusal}"),
-        Ok(closing) => format!(
-            "{}\t{}\t{}\t{}",
-            hex(&verdict_bytes(&closing.verdict)),
-            banks_text(&closing.banks),
-            registers_text(&closing.registers),
-            closing.debt
-        ),
-    }
+/// A rank's picture: bytes, banks, registers, debt.
+pub fn closing_text(closing: &Closing) -> String {
+    let bytes = hex(&verdict_bytes(&closing.verdict));
+    let (banks, registers) = (banks_text(&closing.banks), registers_text(&closing.registers));
+    format!("{bytes}\t{banks}\t{registers}\t{}", closing.debt)
+}
+
+/// The ranks' texts side by side.
+pub fn joined(closings: &[Closing], text: impl Fn(&Closing) -> String) -> String {
+    closings.iter().map(text).collect::<Vec<_>>().join(" ; ")
+}
+
+/// A recording's lines side by side.
+pub fn line_text(answer: &Result<Vec<Closing>, u32>) -> String {
+    lines(answer).join(" ; ")
+}
+
+pub fn answer_text(answer: &Result<Vec<Closing>, u32>) -> String {
+    let Ok(closings) = answer else { return line_text(answer) };
+    let banks = joined(closings, |closing| banks_text(&closing.banks));
+    let registers = joined(closings, |closing| registers_text(&closing.registers));
+    let debt = joined(closings, |closing| closing.debt.to_string());
+    format!("{}\t{banks}\t{registers}\t{debt}", hex(&all_bytes(closings)))
 }

@@ -1,10 +1,12 @@
 //! Checks the vector files and the paper's examples, every field of every line.
 
 use crate::bursts::burst_order;
+use crate::edition::Edition::*;
 use crate::header::read_header;
+use crate::moves::shifted;
 use crate::registers::{allowed, register_reading};
-use crate::text::{answer_text, banks_text, bytes_of_hex, end_of_text, hex, registers_text};
-use crate::verdict::{judge, program_line, verdict_line};
+use crate::text::{answer_text, banks_text, bytes_of_hex, end_of_text, hex, joined, line_text, registers_text};
+use crate::verdict::{judge, program_lines};
 use std::fs::read_to_string;
 
 #[derive(Default)]
@@ -35,6 +37,7 @@ pub fn check_vectors(directory: &str) -> Result<bool, String> {
         ("readings.txt", readings_file(&read("readings.txt")?)?),
         ("requests-readings.txt", titled_file(&read("requests-readings.txt")?)?),
         ("registers.txt", registers_file(&read("registers.txt")?)?),
+        ("moves.txt", moves_file(&read("moves.txt")?)?),
         ("examples of the paper", paper_examples()),
     ];
     for (name, tally) in &checks {
@@ -43,28 +46,33 @@ pub fn check_vectors(directory: &str) -> Result<bool, String> {
     Ok(checks.iter().all(|(_, tally)| tally.differed == 0 && tally.agreed > 0))
 }
 
+/// Room for the verdicts of either edition.
+const ROOM: usize = 40;
+
+fn program_text(recording: &[u8]) -> String {
+    program_lines(recording).join(" ; ")
+}
+
 /// Hex of a recording, tab, the program's line.
 fn program_file(text: &str) -> Result<Tally, String> {
     let mut tally = Tally::default();
     for (line, number) in text.lines().zip(1..) {
         let (recording, expected) = line.split_once('\t').ok_or(format!("line {number}: no tab"))?;
-        tally.compare(&format!("line {number}"), expected, &program_line(&bytes_of_hex(recording)?));
+        tally.compare(&format!("line {number}"), expected, &program_text(&bytes_of_hex(recording)?));
     }
     Ok(tally)
 }
 
-/// Hex, end, line, and where not refused 20 verdict bytes, banks, registers, debt.
+/// Hex, end, line, and where not refused the verdict's bytes, banks, registers, debt; those of two ranks side by side.
 fn whole_file(text: &str) -> Result<Tally, String> {
     let mut tally = Tally::default();
     for (line, number) in text.lines().zip(1..) {
         let mut fields = line.splitn(3, '\t');
         let mut next = || fields.next().ok_or(format!("line {number}: too few fields"));
         let (recording, end, expected) = (bytes_of_hex(next()?)?, end_of_text(next()?)?, next()?);
-        let answer = judge(&recording, end, 20);
-        let got = match &answer {
-            Err(_) => answer_text(&answer),
-            Ok(closing) => format!("{}\t{}", verdict_line(&closing.verdict), answer_text(&answer)),
-        };
+        let answer = judge(&recording, end, ROOM);
+        let line = line_text(&answer);
+        let got = if answer.is_err() { line } else { format!("{line}\t{}", answer_text(&answer)) };
         tally.compare(&format!("line {number}"), expected, &got);
     }
     Ok(tally)
@@ -77,15 +85,15 @@ fn readings_file(text: &str) -> Result<Tally, String> {
     for three in lines.chunks(3) {
         let [title, question, expected] = three else { return Err("readings: not three lines".to_string()) };
         let (recording, end) = question.split_once(" end ").ok_or(format!("{title}: no end"))?;
-        let answer = judge(&bytes_of_hex(recording)?, end_of_text(end)?, 20);
+        let answer = judge(&bytes_of_hex(recording)?, end_of_text(end)?, ROOM);
         let got = match &answer {
-            Err(_) => answer_text(&answer),
-            Ok(closing) => format!(
+            Err(_) => line_text(&answer),
+            Ok(closings) => format!(
                 "{} | {} | {} | {}",
-                verdict_line(&closing.verdict),
-                banks_text(&closing.banks),
-                registers_text(&closing.registers),
-                closing.debt
+                line_text(&answer),
+                joined(closings, |closing| banks_text(&closing.banks)),
+                joined(closings, |closing| registers_text(&closing.registers)),
+                joined(closings, |closing| closing.debt.to_string())
             ),
         };
         tally.compare(title, expected, &got);
@@ -100,9 +108,8 @@ fn titled_file(text: &str) -> Result<Tally, String> {
         let [title, recording, end, expected] = line.split('\t').collect::<Vec<_>>()[..] else {
             return Err(format!("not four fields: {line}"));
         };
-        let answer = judge(&bytes_of_hex(recording)?, end_of_text(end)?, 20);
-        let got = answer.map_or_else(|refusal| format!("refused {refusal}"), |closing| verdict_line(&closing.verdict));
-        tally.compare(title, expected, &got);
+        let answer = judge(&bytes_of_hex(recording)?, end_of_text(end)?, ROOM);
+        tally.compare(title, expected, &line_text(&answer));
     }
     Ok(tally)
 }
@@ -123,6 +130,34 @@ fn registers_file(text: &str) -> Result<Tally, String> {
         tally.compare(line, expected, &got);
     }
     Ok(tally)
+}
+
+/// The edition moved to, the lent length, hex, and the moved bytes or `refused N`. What is moved goes back to the same.
+fn moves_file(text: &str) -> Result<Tally, String> {
+    let mut tally = Tally::default();
+    for (line, number) in text.lines().zip(1..) {
+        let [to, lent, recording, expected] = line.split('\t').collect::<Vec<_>>()[..] else {
+            return Err(format!("not four fields: {line}"));
+        };
+        let (from, back) = if to == "2" { (One, Two) } else { (Two, One) };
+        let lent = lent.parse().map_err(|_| format!("not a length: {line}"))?;
+        let recording = bytes_of_hex(recording)?;
+        let answer = shifted(from, &recording, lent);
+        if let Ok(bytes) = &answer {
+            let again = shifted(back, bytes, recording.len());
+            tally.compare(
+                &format!("line {number}, back"),
+                &hex(&recording),
+                &again.map_or_else(text_of, |bytes| hex(&bytes)),
+            );
+        }
+        tally.compare(&format!("line {number}"), expected, &answer.map_or_else(text_of, |bytes| hex(&bytes)));
+    }
+    Ok(tally)
+}
+
+fn text_of(refusal: u32) -> String {
+    format!("refused {refusal}")
 }
 
 const P1_HEADER: [u8; 6] = [0x14, 0x05, 0xDC, 0, 0, 0];
@@ -217,12 +252,11 @@ fn recordings(tally: &mut Tally) {
     let p8 = bytes_of_hex(P8_HEX).unwrap();
     let p9 = [&p8[..p8.len() - 6], &[0, 0, 5, 0x93, 0, 0]].concat();
     let p10 = [&p9[..], &[0, 0, 4, 0x93, 0, 0, 0, 0, 5, 0x9B, 0, 0]].concat();
-    tally.compare("P8", "broken 10 7 6 529 5 4", &program_line(&p8));
-    tally.compare("P9", "clean 7 530", &program_line(&p9));
-    tally.compare("P10", "broken 5 9 8 539 9 5", &program_line(&p10));
+    tally.compare("P8", "broken 10 7 6 529 5 4", &program_text(&p8));
+    tally.compare("P9", "clean 7 530", &program_text(&p9));
+    tally.compare("P10", "broken 5 9 8 539 9 5", &program_text(&p10));
     let mut closed = |place: &str, recording: &[u8], end: u64, expected: &str| {
-        let line = judge(recording, Some(end), 20).map(|closing| verdict_line(&closing.verdict));
-        tally.compare(place, expected, &line.unwrap_or_else(|refusal| format!("refused {refusal}")));
+        tally.compare(place, expected, &line_text(&judge(recording, Some(end), 20)));
     };
     closed("P11", &P1_HEADER, 46799, "clean 0 46799");
     closed("P11", &P1_HEADER, 46800, "broken 25 0 0 46800 8 9");
@@ -230,6 +264,10 @@ fn recordings(tally: &mut Tally) {
     closed("P12", &p8[..36], 46692, "broken 24 0 5 46692 46666 46667");
     closed("the greatest end", &P1_HEADER, 1 << 44, "broken 25 0 0 46800 8 9");
     closed("above the greatest end", &P1_HEADER, (1 << 44) + 1, "refused 8");
-    let short = judge(&[], None, 19).err();
-    tally.compare("9 before 1", "Some(9)", &format!("{short:?}"));
+    for (recording, lent, expected) in
+        [(&[][..], 19, 9), (&[], 20, 1), (&[0x24], 39, 9), (&[0x24], 40, 1), (&[0x34], 20, 1)]
+    {
+        let got = judge(recording, None, lent).err();
+        tally.compare("9 before 1", &format!("Some({expected})"), &format!("{got:?}"));
+    }
 }

@@ -2,9 +2,10 @@
 
 use crate::banks::{bank_at, Bank};
 use crate::deadlines::{broken_by_deadline, debt_at, edges_to_examine};
+use crate::edition::{room, Edition};
 use crate::header::Header;
 use crate::recording::{
-    last_edge, read_recording, read_records, registers_after, section_refusal, Event, GREATEST_END,
+    last_edge, open, read_recording, read_records, registers_after, section_refusal, Event, GREATEST_END,
 };
 use crate::registers::Registers;
 use crate::rules::{broken_by_record, Break};
@@ -16,7 +17,7 @@ pub enum Verdict {
     Broken(Break),
 }
 
-/// What closing returns: verdict, bank states, registers and debt.
+/// What closing returns of a rank: verdict, bank states, registers and debt.
 pub struct Closing {
     pub verdict: Verdict,
     pub banks: Vec<Bank>,
@@ -67,7 +68,7 @@ fn standing(header: &Header, section: &[u8], end: i64) -> (Option<Break>, i64, V
 
 /// The waiting times after a section's records; once broken they stay as they were just before the broken edge.
 pub fn waits_after(header: &Header, section: &[u8]) -> Vec<i64> {
-    waits(header, &standing(header, section, last_edge_of(section)).2)
+    waits(header, &standing(header, section, Edition::One.last_edge(section)).2)
 }
 
 /// Once broken, banks, registers and debt stay as they were just before the broken edge.
@@ -81,23 +82,19 @@ fn close(header: &Header, section: &[u8], end: i64) -> Closing {
     }
 }
 
-fn last_edge_of(section: &[u8]) -> i64 {
-    read_records(section).map(|record| record.step).sum()
-}
-
-/// Judging a whole recording: refusals 9, 1, 2, 3, 4, 5, 7, 6, 8 in this order.
+/// Judging a whole recording, one closing a rank: refusals 9, 1, 2, 3, 4, 5, 7, 6, 14, 8 in this order.
 /// With no end given, the end is the last record's edge.
-pub fn judge(recording: &[u8], end: Option<u64>, lent: usize) -> Result<Closing, u32> {
-    if lent < 20 {
+pub fn judge(recording: &[u8], end: Option<u64>, lent: usize) -> Result<Vec<Closing>, u32> {
+    if lent < room(recording) {
         return Err(9);
     }
-    let (header, section) = read_recording(recording)?;
-    let last = last_edge_of(section) as u64;
+    let (edition, header, section) = read_recording(recording)?;
+    let last = edition.last_edge(section) as u64;
     let end = end.unwrap_or(last);
     if end < last || end > GREATEST_END {
         return Err(8);
     }
-    Ok(close(&header, section, end as i64))
+    Ok((0..edition.ranks()).map(|rank| close(&header, &edition.seen_by(section, rank), end as i64)).collect())
 }
 
 /// Outcome 8, rule 8, record 24, partner 24, edge 48, needed 24, found 24.
@@ -125,21 +122,31 @@ pub fn verdict_line(verdict: &Verdict) -> String {
     }
 }
 
-/// The program's line: header first, then sections of 6,000 bytes, stopping at the first refusal.
-pub fn program_line(input: &[u8]) -> String {
-    let header_part = &input[..input.len().min(6)];
-    if let Err(refusal) = read_recording(header_part) {
-        return format!("refused {refusal}");
+/// The verdicts' bytes, the first rank's first.
+pub fn all_bytes(closings: &[Closing]) -> Vec<u8> {
+    closings.iter().flat_map(|closing| verdict_bytes(&closing.verdict)).collect()
+}
+
+/// A line a rank, the first rank's first; one line where it is refused.
+pub fn lines(answer: &Result<Vec<Closing>, u32>) -> Vec<String> {
+    match answer {
+        Ok(closings) => closings.iter().map(|closing| verdict_line(&closing.verdict)).collect(),
+        Err(refusal) => vec![format!("refused {refusal}")],
     }
+}
+
+/// The program's lines: header first, then sections of 6,000 bytes, stopping at the first refusal.
+pub fn program_lines(input: &[u8]) -> Vec<String> {
+    lines(&stepwise(input).and_then(|_| judge(input, None, usize::MAX)))
+}
+
+fn stepwise(input: &[u8]) -> Result<(), u32> {
+    let (header, rest) = input.split_at(input.len().min(6));
+    let (edition, _) = open(header)?;
     let mut records = 0;
-    for section in input[6..].chunks(6000) {
-        if let Some(refusal) = section_refusal(section, records) {
-            return format!("refused {refusal}");
-        }
-        records += section.len() / 6;
+    for section in rest.chunks(6000) {
+        section_refusal(edition, section, records).map_or(Ok(()), Err)?;
+        records += section.len() / edition.size();
     }
-    match judge(input, None, 20) {
-        Ok(closing) => verdict_line(&closing.verdict),
-        Err(refusal) => format!("refused {refusal}"),
-    }
+    Ok(())
 }
