@@ -9,7 +9,8 @@ and the form of a case is told at the top of crates/sections_run/src/main.rt. No
 Each recording is judged as its file says: program.txt and long.txt in sections of 6,000 bytes to the program's line,
 whole.txt, requests.txt and readings.txt in one section to the whole picture, requests-readings.txt in one to its line. Then it is cut at every record, and again at random places
 with empty and with refused sections in between: a refused section changes nothing, so the closing is the same, and the
-verdict so far is the break if the last record so far is at or past the broken edge, and clean before."""
+verdict so far is the break if the last record so far is at or past the broken edge, and clean before. Of a recording of
+edition 2 each answer is two lines, the first rank's first; a refusal is one."""
 
 import sys
 from pathlib import Path
@@ -17,6 +18,7 @@ from pathlib import Path
 HERE = Path(__file__).parent
 LAST = (1 << 48) - 1
 IDLE = ' '.join(['i'] * 8)
+RANKS = ' ; '  # between the answers of two ranks
 
 
 # ---- the vectors: a recording, its end edge, its line, and (banks, registers, debt) where they are told
@@ -29,7 +31,7 @@ def vectors():
     for text in lines('whole') + lines('requests'):
         recording, end, line, *rest = text.split('\t')
         if rest:
-            assert rest[0] == in_bytes(line)
+            assert rest[0] == ''.join(map(in_bytes, line.split(RANKS)))
         yield unhex(recording), edge(end, '-'), line, rest[1:], 60000
     told = [text.strip() for text in lines('readings')]
     for _, call, answer in zip(told[0::3], told[1::3], told[2::3]):
@@ -53,6 +55,11 @@ def edge(text, last):
     return LAST if text == last else int(text)
 
 
+def size(recording):
+    """The bytes of a record."""
+    return 8 if recording[:1] and recording[0] >> 4 == 2 else 6
+
+
 # ---- what is printed
 
 def in_bytes(line):
@@ -66,15 +73,17 @@ def in_bytes(line):
 
 
 def closing(line, picture):
+    """A line a rank, or that of the refusal."""
     if picture is None or line.startswith('refused'):
-        return line
-    return '\t'.join([line, in_bytes(line), *picture])
+        return line.split(RANKS)
+    return ['\t'.join([own, in_bytes(own), *told]) for own, *told in zip(*(field.split(RANKS) for field in (line, *picture)))]
 
 
 def so_far(line, count, now):
-    """The verdict on the first `count` records, the last at edge `now`."""
-    word, *numbers = line.split()
-    return line if word == 'broken' and int(numbers[3]) <= now else f'clean {count} {now}'
+    """The verdicts on the first `count` records, the last at edge `now`."""
+    for own in line.split(RANKS):
+        word, *numbers = own.split()
+        yield own if word == 'broken' and int(numbers[3]) <= now else f'clean {count} {now}'
 
 
 # ---- the cases
@@ -86,10 +95,10 @@ def case(told, picture, end, header, sections):
     return head + b''.join(len(s).to_bytes(4, 'big') for s in sections) + b''.join(sections)
 
 
-def as_told(recording, end, line, picture, size):
+def as_told(recording, end, line, picture, longest):
     header, rest = recording[:6], recording[6:]
-    sections = [rest[i:i + size] for i in range(0, len(rest), size)]
-    return case(False, picture, end, header, sections), [closing(line, picture)]
+    sections = [rest[i:i + longest] for i in range(0, len(rest), longest)]
+    return case(False, picture, end, header, sections), closing(line, picture)
 
 
 def cut(recording, end, line, picture, sections):
@@ -100,11 +109,11 @@ def cut(recording, end, line, picture, sections):
             refused, section = section
             printed.append(f'refused {refused}')
         else:
-            count += len(section) // 6
-            now += sum(int.from_bytes(section[i:i + 3], 'big') for i in range(0, len(section), 6))
-            printed.append(so_far(line, count, now))
+            count += len(section) // size(recording)
+            now += sum(int.from_bytes(section[i:i + 3], 'big') for i in range(0, len(section), size(recording)))
+            printed += so_far(line, count, now)
         given.append(section)
-    return case(True, picture, end, recording[:6], given), printed + [closing(line, picture)]
+    return case(True, picture, end, recording[:6], given), printed + closing(line, picture)
 
 
 class Chance:
@@ -119,11 +128,11 @@ class Chance:
 
 
 def every_record(recording):
-    return [recording[i:i + 6] for i in range(6, len(recording), 6)]
+    return [recording[i:i + size(recording)] for i in range(6, len(recording), size(recording))]
 
 
 def anywhere(recording, chance):
-    """At random places; at each one now and then empty sections, and sections that are refused by 5 or by 6."""
+    """At random places; at each one now and then empty sections, and sections that are refused by 5, by 6 or by 14."""
     records, at, sections = every_record(recording), 0, []
     while at < len(records):
         while chance.below(10) < 3:
@@ -133,14 +142,22 @@ def anywhere(recording, chance):
         n = (1, 2, 3, 5, 10, 30, 300)[chance.below(7)]
         sections.append(b''.join(records[at:at + n]))
         at += n
-    return sections + [b'', refused(records[:3] or [b'\0\0\1\xb8\0\0'], chance)]
+    return sections + [b'', refused(records[:3] or [(b'\0\0\1\xb8' + bytes(4))[:size(recording)]], chance)]
 
 
 def refused(records, chance):
-    if chance.below(2) == 0:
-        return 5, b''.join(records) + bytes(1 + chance.below(5))
+    wide = len(records[0]) == 8
+    kind = chance.below(2 + wide)
+    if kind == 0:
+        return 5, b''.join(records) + bytes(1 + chance.below(len(records[0]) - 1))
     at = chance.below(len(records))
-    return 6, b''.join(records[:at] + [b'\0\0\0' + records[at][3:]] + records[at + 1:])
+    if kind == 1:
+        return 6, b''.join(records[:at] + [b'\0\0\0' + records[at][3:]] + records[at + 1:])
+    return 14, b''.join(records[:at] + [with_a_bit(records[at], chance.below(13))] + records[at + 1:])
+
+
+def with_a_bit(record, place):
+    return (int.from_bytes(record, 'big') | 1 << place).to_bytes(8, 'big')
 
 
 def by_hand():
@@ -153,6 +170,21 @@ def by_hand():
     yield case(False, None, LAST, header + b'\0', []), ['refused 1']
     yield case(False, None, LAST, header, [b'', b'']), ['clean 0 0']
     yield case(True, None, LAST, header, [b'', bytes(5), bytes(6), bytes(7)]), ['clean 0 0', 'refused 5', 'refused 6', 'refused 5', 'clean 0 0']
+    yield from by_hand_of_two_ranks(bytes.fromhex('2405dc000000'))
+
+
+def by_hand_of_two_ranks(header):
+    clean = '\t'.join(['clean 0 46799', in_bytes('clean 0 46799'), IDLE, '- - - -', '8'])
+    yield case(False, [], 46799, header, []), [clean, clean]
+    yield case(False, None, 46800, header, []), 2 * ['broken 25 0 0 46800 8 9']
+    yield case(False, None, (1 << 44) + 1, header, []), ['refused 8']
+    yield case(False, None, LAST, header + b'\0', []), ['refused 1']
+    yield case(False, None, LAST, header[:5], []), ['refused 1']
+    yield case(False, None, LAST, header, [b'', b'']), 2 * ['clean 0 0']
+    nop, still, marked = (bytes.fromhex(text) for text in ('000001c700000000', '000000c700000000', '000001c700000001'))
+    odd = [(5, bytes(7)), (6, still), (14, marked), (5, nop + b'\0'), (6, marked + still), (6, still[:7] + b'\1'), (5, still + marked + b'\0')]
+    told = 2 * ['clean 1 1'] + [f'refused {number}' for number, _ in odd] + 4 * ['clean 2 2']
+    yield case(True, None, LAST, header, [nop, *(section for _, section in odd), nop]), told
 
 
 def cases():
