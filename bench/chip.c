@@ -15,7 +15,8 @@ enum { GREATEST_PERIOD = 3300 };
 
 int read_header(struct header *h, const uint8_t *six)
 {
-    if (six[0] >> 4 != 1)
+    h->edition = six[0] >> 4;
+    if (h->edition != 1 && h->edition != 2)
         return 2;
     if ((six[1] & 0x70) != 0 || six[3] != 0 || six[4] != 0 || six[5] != 0)
         return 3;

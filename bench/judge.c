@@ -333,41 +333,65 @@ static inline int breaks(struct judge *j, struct record r)
 
 /* ---- a section */
 
-/* Step, levels and BA. */
-static inline uint32_t first_four(const uint8_t *six)
+static inline uint32_t step_of(const uint8_t *at)
 {
-    return (uint32_t)six[0] << 24 | (uint32_t)six[1] << 16 | (uint32_t)six[2] << 8 | six[3];
+    return (uint32_t)at[0] << 16 | (uint32_t)at[1] << 8 | at[2];
 }
 
-/* Judges up to the end or to the first break, then only counts. 6 where a step is 0, with a state that is of no use. */
-static int take(struct judge *j, const uint8_t *at, const uint8_t *end)
+/* CKE, CS, RAS, CAS, WE. In edition 2 they stand as RESET, CKE, CS, CS of the second rank, ODT, RAS, CAS, WE. */
+static inline unsigned levels_of(const uint8_t *at, int wide, unsigned rank)
 {
+    unsigned four = at[3];
+    return wide ? (four >> 6 & 1) << 4 | (four >> (5 - rank) & 1) << 3 | (four & 7) : four >> 3;
+}
+
+static inline unsigned bank_of(const uint8_t *at, int wide)
+{
+    return wide ? at[4] >> 5 : at[3] & 7;
+}
+
+static inline unsigned address_of(const uint8_t *at, int wide)
+{
+    return wide ? (at[4] & 31u) << 11 | (unsigned)at[5] << 3 | at[6] >> 5 : (unsigned)at[4] << 8 | at[5];
+}
+
+/* Judges up to the end or to the first break, then only counts. 6 where a step is 0, 14 where a zero bit is 1, with a state
+ * that is of no use. */
+static inline __attribute__((always_inline)) int take(struct judge *j, const uint8_t *at, const uint8_t *end, int wide,
+                                                      unsigned rank)
+{
+    const size_t size = wide ? EIGHT_BYTES : SIX;
     int64_t edge = j->edge;
     uint32_t number = j->count;
+    unsigned spare = 0;
     int broken = j->first.broken;
     while (at < end && !broken) {
-        uint32_t four = first_four(at);
+        uint32_t step = step_of(at);
         struct record r;
-        if (four >> 8 == 0)
-            return 6;
-        r.command = (enum command)COMMAND[j->mode][four >> 3 & 31];
-        r.ba = four & 7;
-        r.a = (unsigned)at[4] << 8 | at[5];
-        r.edge = edge += four >> 8;
-        r.number = ++number;
-        at += SIX;
-        broken = breaks(j, r);
-    }
-    number += (uint32_t)((end - at) / SIX);
-    for (; at < end; at += SIX) {
-        uint32_t step = first_four(at) >> 8;
         if (step == 0)
             return 6;
+        if (wide)
+            spare |= (at[6] & 31u) | at[7];
+        r.command = (enum command)COMMAND[j->mode][levels_of(at, wide, rank)];
+        r.ba = bank_of(at, wide);
+        r.a = address_of(at, wide);
+        r.edge = edge += step;
+        r.number = ++number;
+        at += size;
+        broken = breaks(j, r);
+    }
+    number += (uint32_t)((size_t)(end - at) / size);
+    for (; at < end; at += size) {
+        uint32_t step = step_of(at);
+        if (step == 0)
+            return 6;
+        if (wide)
+            spare |= (at[6] & 31u) | at[7];
         edge += step;
     }
     j->edge = edge;
     j->count = number;
-    return 0;
+    return spare != 0 ? 14 : 0;
 }
 
 /* ---- calls */
@@ -399,13 +423,14 @@ int judge_open(struct judge *j, const uint8_t *header, size_t length)
     return 0;
 }
 
-int judge_section(struct judge *j, const uint8_t *bytes, size_t length)
+int judge_records(struct judge *j, const uint8_t *bytes, size_t length)
 {
-    struct judge before = *j;
-    int refused = length % SIX != 0 ? 5 : length / SIX > MOST_RECORDS - j->count ? 7 : take(j, bytes, bytes + length);
-    if (refused)
-        *j = before;
-    return refused;
+    return take(j, bytes, bytes + length, 0, 0);
+}
+
+int judge_wide_records(struct judge *j, const uint8_t *bytes, size_t length, unsigned rank)
+{
+    return rank == 0 ? take(j, bytes, bytes + length, 1, 0) : take(j, bytes, bytes + length, 1, 1);
 }
 
 int judge_close(const struct judge *j, int64_t end, struct verdict *verdict)
@@ -418,28 +443,5 @@ int judge_close(const struct judge *j, int64_t end, struct verdict *verdict)
     if (!last.first.broken && soonest.at <= end)
         say_late(&last, soonest);
     *verdict = last.first.broken ? last.first : clean;
-    return 0;
-}
-
-static uint8_t *put(uint8_t *out, int64_t value, int bytes)
-{
-    while (bytes-- > 0)
-        *out++ = (uint8_t)(value >> (8 * bytes));
-    return out;
-}
-
-uint32_t judge_whole(const uint8_t *recording, size_t length, uint64_t end, uint8_t *out, size_t out_length)
-{
-    struct judge j;
-    struct verdict v;
-    int refused = out_length < VERDICT_BYTES ? 9 : length < SIX ? 1 : judge_open(&j, recording, SIX);
-    if (!refused)
-        refused = judge_section(&j, recording + SIX, length - SIX);
-    if (!refused)
-        refused = end > GREATEST_END ? 8 : judge_close(&j, (int64_t)end, &v);
-    if (refused)
-        return (uint32_t)refused;
-    out = put(put(put(put(out, v.broken, 1), v.rule, 1), v.record, 3), v.partner, 3);
-    put(put(put(out, v.edge, 6), v.needed, 3), v.found, 3);
     return 0;
 }

@@ -1,18 +1,18 @@
-/* A judge of DDR3 command recordings in plain C, to be measured beside the proved one: the same 31 rules, the same
- * refusals, a running state that keeps no record. Written from the rules paper; nothing in it is proved. */
+/* A judge of DDR3 command recordings of both editions in plain C, to be measured beside the proved one: the same 31 rules,
+ * the same refusals, a running state that keeps no record. Written from the rules paper; nothing in it is proved. */
 #ifndef BENCH_JUDGE_H
 #define BENCH_JUDGE_H
 
 #include <stddef.h>
 #include <stdint.h>
 
-enum { BANKS = 8, SIX = 6, VERDICT_BYTES = 20, MOST_RECORDS = 1048576 };
+enum { BANKS = 8, SIX = 6, EIGHT_BYTES = 8, RANKS = 2, VERDICT_BYTES = 20, MOST_RECORDS = 1048576 };
 
 /* No wait added to these wraps. */
 static const int64_t LONG_AGO = -(INT64_C(1) << 60), NEVER = INT64_C(1) << 60;
 
 struct header {
-    int bin, density, width, hot, period;
+    int edition, bin, density, width, hot, period;
 };
 
 /* A header's times in clocks. */
@@ -69,6 +69,7 @@ struct verdict {
     int64_t edge, needed, found;
 };
 
+/* Of one rank. */
 struct judge {
     struct header header;
     struct counts t;
@@ -95,10 +96,22 @@ struct judge {
     struct verdict first;
 };
 
-/* Each answers 0 or the number of a refusal, and a refused call alters nothing. */
+/* judge.c: a rank. Each answers 0 or the number of a refusal; where a section is refused the state is of no use. */
 int judge_open(struct judge *j, const uint8_t *header, size_t length);
-int judge_section(struct judge *j, const uint8_t *bytes, size_t length);
+int judge_records(struct judge *j, const uint8_t *bytes, size_t length);
+int judge_wide_records(struct judge *j, const uint8_t *bytes, size_t length, unsigned rank);
 int judge_close(const struct judge *j, int64_t end, struct verdict *verdict);
+
+/* All ranks of a recording: one of edition 1, two of edition 2, which see the same records, each with its own CS. */
+struct board {
+    int ranks;
+    struct judge rank[RANKS];
+};
+
+/* board.c: each answers 0 or the number of a refusal, and a refused call alters nothing. */
+int board_open(struct board *b, const uint8_t *header, size_t length);
+int board_section(struct board *b, const uint8_t *bytes, size_t length);
+int board_close(const struct board *b, int64_t end, struct verdict *verdicts);
 uint32_t judge_whole(const uint8_t *recording, size_t length, uint64_t end, uint8_t *out, size_t out_length);
 
 /* chip.c: the header, its clock counts, the registers. */

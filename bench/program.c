@@ -1,6 +1,6 @@
 /* The C judge as a program: a recording on standard input, the header first and then sections of 6,000 bytes, to one line
- * on standard output, as the proved program does it; but it reads several sections at once. With the word `state` it prints
- * the size of its state. */
+ * a rank on standard output, as the proved program does it; but it reads several sections at once. With the word `state` it
+ * prints the size of its state of one rank. */
 #include "judge.h"
 
 #include <inttypes.h>
@@ -22,44 +22,51 @@ static size_t read_full(uint8_t *bytes, size_t length)
     return at;
 }
 
-static int judge_sections(struct judge *j, const uint8_t *bytes, size_t length)
+static int judge_sections(struct board *b, const uint8_t *bytes, size_t length)
 {
     int refused = 0;
     size_t at;
     for (at = 0; at < length && !refused; at += SECTION)
-        refused = judge_section(j, bytes + at, length - at < SECTION ? length - at : SECTION);
+        refused = board_section(b, bytes + at, length - at < SECTION ? length - at : SECTION);
     return refused;
 }
 
-static int judge_input(struct verdict *v)
+static struct board board;
+
+static int judge_input(struct verdict *verdicts)
 {
-    static struct judge j;
     static uint8_t space[AT_ONCE];
-    int refused = judge_open(&j, space, read_full(space, SIX));
+    int refused = board_open(&board, space, read_full(space, SIX));
     size_t n = AT_ONCE;
     while (!refused && n == AT_ONCE) {
         n = read_full(space, AT_ONCE);
-        refused = judge_sections(&j, space, n);
+        refused = judge_sections(&board, space, n);
     }
-    return refused ? refused : judge_close(&j, j.edge, v);
+    return refused ? refused : board_close(&board, board.rank[0].edge, verdicts);
+}
+
+static void print(const struct verdict *v)
+{
+    if (v->broken)
+        printf("broken %d %" PRIu32 " %" PRIu32 " %" PRId64 " %" PRId64 " %" PRId64 "\n", v->rule, v->record, v->partner, v->edge,
+               v->needed, v->found);
+    else
+        printf("clean %" PRIu32 " %" PRId64 "\n", v->record, v->edge);
 }
 
 int main(int count, char **words)
 {
-    struct verdict v;
-    int refused;
+    struct verdict verdicts[RANKS];
+    int i, refused;
     (void)words;
     if (count > 1) {
         printf("%zu\n", sizeof(struct judge));
         return 0;
     }
-    refused = judge_input(&v);
+    refused = judge_input(verdicts);
     if (refused)
         printf("refused %d\n", refused);
-    else if (v.broken)
-        printf("broken %d %" PRIu32 " %" PRIu32 " %" PRId64 " %" PRId64 " %" PRId64 "\n", v.rule, v.record, v.partner, v.edge,
-               v.needed, v.found);
-    else
-        printf("clean %" PRIu32 " %" PRId64 "\n", v.record, v.edge);
+    for (i = 0; !refused && i < board.ranks; i++)
+        print(&verdicts[i]);
     return 0;
 }

@@ -39,9 +39,15 @@ typedef __SIZE_TYPE__ size_t;
 extern "C" {
 #endif
 
-/* The verdict on a whole recording: six header bytes, then six bytes a record, closed at the edge end.
+/* The verdict on a whole recording: six header bytes, then six bytes a record, in edition 2 eight, closed at
+ * the edge end.
  *
- * Writes 20 bytes to the start of out, numbers most significant byte first:
+ * A record of edition 1 has step 24 bits, CKE, CS, RAS, CAS, WE 1 each, BA 3, A15 to A0 16; one of edition 2 step 24,
+ * RESET, CKE, CS of the first rank, CS of the second, ODT, RAS, CAS, WE 1 each, BA 3, A15 to A0 16, zero 13. Each
+ * rank of edition 2 is judged by itself: it sees every record, with its own CS. RESET and ODT are not judged.
+ *
+ * Writes 20 bytes to the start of out, in edition 2 40, the first rank's 20 and then the second's; numbers most
+ * significant byte first:
  *   outcome 1 byte (0 clean, 1 broken), rule 1, record 3, partner 3, edge 6, needed 3, found 3
  * Clean: record is the number of records, edge is end, the rest 0. Broken: the first broken edge and
  * the lowest of the 31 rules broken there; record is the number of the record that breaks it (from 1),
@@ -51,7 +57,26 @@ extern "C" {
  * the refused bit, as manilaply_register tells it. Bytes of out after these keep their values.
  *
  * Answers 0, or the first of
- *    9   out_len is below 20
+ *    9   out_len is below 20, or below 40 where the first four bits of the recording are 2, however short it is
+ *    1   recording_len is below 6
+ *    2   the header's edition is neither 1 nor 2
+ *    3   a zero field of the header is not zero
+ *    4   the period is under the bin's least, or over 3300 ps
+ *    5   recording_len less 6 is not a multiple of 6, in edition 2 of 8
+ *    7   there are more than 1,048,576 records
+ *    6   some record's step is 0
+ *   14   a zero bit of some record of edition 2 is not zero
+ *    8   end is before the last record's edge, or above 2^44
+ */
+uint32_t manilaply_judge(const uint8_t *recording, size_t recording_len, uint64_t end, uint8_t *out,
+                         size_t out_len);
+
+/* A whole recording of edition 1 as one of edition 2: the header's first four bits become 2, and each record gets
+ * RESET 1, the second CS 1, ODT 0 and the zero bits. manilaply_narrow gives the same bytes back.
+ *
+ * Writes 6 bytes and 8 a record to the start of out. Bytes of out after these keep their values.
+ *
+ * Answers 0, or the first of
  *    1   recording_len is below 6
  *    2   the header's edition is not 1
  *    3   a zero field of the header is not zero
@@ -59,12 +84,30 @@ extern "C" {
  *    5   recording_len less 6 is not a multiple of 6
  *    7   there are more than 1,048,576 records
  *    6   some record's step is 0
- *    8   end is before the last record's edge, or above 2^44
+ *    9   out_len is below 6 and 8 a record
  */
-uint32_t manilaply_judge(const uint8_t *recording, size_t recording_len, uint64_t end, uint8_t *out,
-                         size_t out_len);
+uint32_t manilaply_widen(const uint8_t *recording, size_t recording_len, uint8_t *out, size_t out_len);
 
-/* What a mode register's code says under a recording's header.
+/* A whole recording of edition 2 as one of edition 1, where every record has RESET 1, the second CS 1 and ODT 0. These
+ * and the zero bits are left out; manilaply_widen gives the same bytes back.
+ *
+ * Writes 6 bytes and 6 a record to the start of out. Bytes of out after these keep their values.
+ *
+ * Answers 0, or the first of
+ *    1   recording_len is below 6
+ *    2   the header's edition is not 2
+ *    3   a zero field of the header is not zero
+ *    4   the period is under the bin's least, or over 3300 ps
+ *    5   recording_len less 6 is not a multiple of 8
+ *    7   there are more than 1,048,576 records
+ *    6   some record's step is 0
+ *   14   a zero bit of some record is not zero
+ *   13   some record has RESET 0, the second CS 0 or ODT 1
+ *    9   out_len is below 6 and 6 a record
+ */
+uint32_t manilaply_narrow(const uint8_t *recording, size_t recording_len, uint8_t *out, size_t out_len);
+
+/* What a mode register's code says under the header of a recording of edition 1.
  *
  * Writes 6 bytes to the start of out, CL, WR and CWL in clocks and any other field as its bits:
  *   number 0, MR0   A1A0, A3, CL, A8, WR, A12

@@ -55,7 +55,12 @@ static void count(int good, const char *table, unsigned long row, uint32_t wante
 
 /* ---- lent buffers */
 
-enum { GUARD = 24, MOST = 24, WHOLE = GUARD + MOST + GUARD, BLOCK = 2 };
+/* No buffer that is lent is longer; a test that lends longer ones says so before it includes this. */
+#ifndef MOST_LENT
+#define MOST_LENT 24
+#endif
+
+enum { GUARD = 24, MOST = MOST_LENT, WHOLE = GUARD + MOST + GUARD, BLOCK = 2 };
 
 static uint8_t guarded[WHOLE];
 
@@ -78,6 +83,27 @@ static uint8_t *lend(unsigned kind, size_t length)
     return out;
 }
 
+/* What a call reads, in a block of its own, where valgrind sees any byte that is touched outside of it. */
+static inline uint8_t *copied(const uint8_t *bytes, size_t length)
+{
+    uint8_t *block = malloc(length);
+    size_t i;
+    for (i = 0; i < length; i++)
+        block[i] = bytes[i];
+    return block;
+}
+
+/* Is the block as it was? Gives it back. */
+static inline int kept(uint8_t *block, const uint8_t *bytes, size_t length)
+{
+    int good = 1;
+    size_t i;
+    for (i = 0; i < length; i++)
+        good &= block[i] == bytes[i];
+    free(block);
+    return good;
+}
+
 /* Has the buffer these bytes at its start, and all else as it was? Gives it back. */
 static int holds(unsigned kind, uint8_t *out, size_t length, const uint8_t *bytes, size_t n)
 {
@@ -92,6 +118,49 @@ static int holds(unsigned kind, uint8_t *out, size_t length, const uint8_t *byte
             good &= (i >= GUARD && i < GUARD + length) || guarded[i] == pattern(kind, i);
     return good;
 }
+
+/* ---- judging and moving on every kind of buffer */
+
+/* One judging on a buffer of out_len bytes, of each kind; n bytes are written if nothing is refused. */
+static inline void judging(const char *table, unsigned long row, const uint8_t *recording, size_t length, uint64_t end,
+                           size_t out_len, uint32_t wanted, const uint8_t *bytes, size_t n)
+{
+    unsigned kind;
+    for (kind = 0; kind <= BLOCK; kind++) {
+        uint8_t *out = lend(kind, out_len), *lent = copied(recording, length);
+        uint32_t got = manilaply_judge(lent, length, end, out, out_len);
+        int good = kept(lent, recording, length);
+        good &= holds(kind, out, out_len, bytes, wanted == 0 ? n : 0);
+        count(good && got == wanted, table, row, wanted, got);
+    }
+}
+
+/* The same of a move. */
+static inline void moving(const char *table, unsigned long row,
+                          uint32_t move(const uint8_t *recording, size_t recording_len, uint8_t *out, size_t out_len),
+                          const uint8_t *recording, size_t length, size_t out_len, uint32_t wanted, const uint8_t *bytes,
+                          size_t n)
+{
+    unsigned kind;
+    for (kind = 0; kind <= BLOCK; kind++) {
+        uint8_t *out = lend(kind, out_len), *lent = copied(recording, length);
+        uint32_t got = move(lent, length, out, out_len);
+        int good = kept(lent, recording, length);
+        good &= holds(kind, out, out_len, bytes, wanted == 0 ? n : 0);
+        count(good && got == wanted, table, row, wanted, got);
+    }
+}
+
+/* A verdict's 20 bytes of outcome, rule, record, partner, edge, needed, found. */
+static inline void as_bytes(const uint64_t *fields, uint8_t *bytes)
+{
+    static const int WIDTHS[] = {1, 1, 3, 3, 6, 3, 3};
+    int i, left;
+    for (i = 0; i < 7; i++)
+        for (left = WIDTHS[i]; left > 0; left--)
+            *bytes++ = (uint8_t)(fields[i] >> (8 * (left - 1)));
+}
+
 /* ---- the end */
 
 #define ROWS(table) (sizeof(table) / sizeof(table)[0])

@@ -1,4 +1,4 @@
-/* Judging a whole recording from C, on good and bad input: each answer and each byte of the lent buffers is held to the
+/* Judging a whole recording of edition 1 from C, on good and bad input: each answer and each byte of the lent buffers is held to the
  * tables below, which are written from 01's examples and its list of refusals, and from Q-1's and Q-2's rules. */
 #include "checks.h"
 
@@ -82,37 +82,6 @@ static const struct {
     {P8, sizeof P8 - 1, 529, 5, {0}},
 };
 
-static const int WIDTHS[] = {1, 1, 3, 3, 6, 3, 3};
-
-static void as_bytes(const uint64_t *fields, uint8_t *bytes)
-{
-    int i, left;
-    for (i = 0; i < 7; i++)
-        for (left = WIDTHS[i]; left > 0; left--)
-            *bytes++ = (uint8_t)(fields[i] >> (8 * (left - 1)));
-}
-
-/* One judging on a buffer of out_len bytes, of each kind. The recording must stay as it is. */
-static void judging(const char *table, unsigned long row, const uint8_t *recording, size_t length, uint64_t end,
-                    size_t out_len, uint32_t wanted, const uint8_t *verdict)
-{
-    unsigned kind;
-    for (kind = 0; kind <= BLOCK; kind++) {
-        uint8_t *out = lend(kind, out_len), *lent = malloc(length);
-        uint32_t got;
-        int good = 1;
-        size_t i;
-        for (i = 0; i < length; i++)
-            lent[i] = recording[i];
-        got = manilaply_judge(lent, length, end, out, out_len);
-        for (i = 0; i < length; i++)
-            good &= lent[i] == recording[i];
-        free(lent);
-        good &= holds(kind, out, out_len, verdict, wanted == 0 ? VERDICT : 0);
-        count(good && got == wanted, table, row, wanted, got);
-    }
-}
-
 static void judging_by_table(void)
 {
     unsigned long row;
@@ -122,7 +91,7 @@ static void judging_by_table(void)
         as_bytes(CASES[row].verdict, verdict);
         for (out_len = 0; out_len <= MOST; out_len++)
             judging("judging", row, CASES[row].recording, CASES[row].length, CASES[row].end, out_len,
-                    out_len < VERDICT ? 9 : CASES[row].wanted, verdict);
+                    out_len < VERDICT ? 9 : CASES[row].wanted, verdict, VERDICT);
     }
 }
 
@@ -150,7 +119,7 @@ static void refused_by(unsigned set, uint8_t *recording)
     for (i = 0; i < SIX + records * SIX + 5; i++)
         recording[i] = i < SIX ? GOOD[i] : NOP[i % SIX];
     if (set & TWO)
-        recording[0] = 0x24;
+        recording[0] = 0x34;
     if (set & THREE)
         recording[1] |= 0x40;
     if (set & FOUR)
@@ -159,7 +128,7 @@ static void refused_by(unsigned set, uint8_t *recording)
         recording[SIX + (records - 1) * SIX + 2] = 0;
     as_bytes(fields, clean);
     judging("refusals at once", set, recording, length, set & EIGHT ? GREATEST_END + 1 : set & SEVEN ? 2 * LIMIT : 3,
-            set & NINE ? VERDICT - 1 : VERDICT, first_of(set), clean);
+            set & NINE ? VERDICT - 1 : VERDICT, first_of(set), clean, VERDICT);
 }
 
 /* With 7 only once each with one other: the recording is long. */

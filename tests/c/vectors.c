@@ -1,37 +1,16 @@
-/* From C, every whole recording of tests/vectors/whole.txt and requests.txt judged, and every code of registers.txt read. Run from the
- * repository's root. */
+/* From C, every whole recording of tests/vectors/whole.txt and requests.txt judged, every code of registers.txt read, and
+ * every recording of moves.txt moved. Run from the repository's root. */
+#define MOST_LENT 4096
 #include "checks.h"
 
 int open(const char *path, int how, ...);
 long read(int file, void *bytes, size_t length);
 
-enum { TWENTY = 20, HEADER = 6, RECORD = 6, SIX = 6 };
-
-/* One judging on a buffer of out_len bytes, of each kind; the recording is lent in a block of its own and must stay. */
-static void judging(const char *table, unsigned long row, const uint8_t *recording, size_t length,
-                    uint64_t end, size_t out_len, uint32_t wanted, const uint8_t *bytes)
-{
-    unsigned kind;
-    for (kind = 0; kind <= BLOCK; kind++) {
-        uint8_t *lent = malloc(length);
-        uint8_t *out = lend(kind, out_len);
-        uint32_t got;
-        int good = 1;
-        size_t i;
-        for (i = 0; i < length; i++)
-            lent[i] = recording[i];
-        got = manilaply_judge(lent, length, end, out, out_len);
-        for (i = 0; i < length; i++)
-            good &= lent[i] == recording[i];
-        good &= holds(kind, out, out_len, bytes, wanted == 0 ? TWENTY : 0) && got == wanted;
-        count(good, table, row, wanted, got);
-        free(lent);
-    }
-}
+enum { TWENTY = 20, HEADER = 6, SIX = 6, MORE = 4 };
 
 /* ---- the vectors */
 
-static uint8_t text[1 << 20], recording[1 << 12];
+static uint8_t text[1 << 20], recording[1 << 12], moved[1 << 12];
 
 static unsigned digit(uint8_t c)
 {
@@ -64,22 +43,28 @@ static uint64_t number(const uint8_t *at)
     return n;
 }
 
+static int is_wide(const uint8_t *bytes, size_t length)
+{
+    return length > 0 && bytes[0] >> 4 == 2;
+}
+
 /* The edge of the last record. */
 static uint64_t last_edge(const uint8_t *bytes, size_t length)
 {
     uint64_t edge = 0;
-    size_t at;
-    for (at = HEADER; at + RECORD <= length; at += RECORD)
+    size_t at, size = is_wide(bytes, length) ? 8 : 6;
+    for (at = HEADER; at + size <= length; at += size)
         edge += (uint64_t)bytes[at] << 16 | (uint64_t)bytes[at + 1] << 8 | bytes[at + 2];
     return edge;
 }
 
 /* A line: the recording, tab, the end edge or '-' for the last record's, tab, the program's line, and where that is no
- * refusal, tab, the 20 bytes. */
+ * refusal, tab, the 20 bytes, in edition 2 the 40. */
 static void by_line(const uint8_t *line, unsigned long row)
 {
-    uint8_t bytes[TWENTY] = {0};
+    uint8_t bytes[2 * TWENTY] = {0};
     size_t length = unhex(line, recording);
+    size_t room = is_wide(recording, length) ? 2 * TWENTY : TWENTY;
     const uint8_t *end_field = after(line, '\t');
     const uint8_t *answer = after(end_field, '\t');
     uint64_t end = *end_field == '-' ? last_edge(recording, length) : number(end_field);
@@ -87,9 +72,24 @@ static void by_line(const uint8_t *line, unsigned long row)
     size_t out_len;
     if (wanted == 0)
         unhex(after(answer, '\t'), bytes);
-    for (out_len = TWENTY; out_len <= MOST; out_len += MOST - TWENTY)
-        judging("vectors", row, recording, length, end, out_len, wanted, bytes);
-    judging("vectors, no room", row, recording, length, end, TWENTY - 1, 9, bytes);
+    for (out_len = room; out_len <= room + MORE; out_len += MORE)
+        judging("vectors", row, recording, length, end, out_len, wanted, bytes, room);
+    judging("vectors, no room", row, recording, length, end, room - 1, 9, bytes, 0);
+}
+
+/* A line: the edition moved to, tab, the lent length, tab, the recording, tab, the moved bytes or the refusal. */
+static void by_move(const uint8_t *line, unsigned long row)
+{
+    const uint8_t *lent_field = after(line, '\t');
+    const uint8_t *given = after(lent_field, '\t');
+    const uint8_t *answer = after(given, '\t');
+    size_t length = unhex(given, recording), n = 0;
+    uint32_t wanted = *answer == 'r' ? (uint32_t)number(after(answer, ' ')) : 0;
+    if (wanted == 0)
+        n = unhex(answer, moved);
+    moving("moves", row, *line == '2' ? manilaply_widen : manilaply_narrow, recording, length, (size_t)number(lent_field), wanted, moved, n);
+    if (wanted == 0)
+        moving("moves, back", row, *line == '2' ? manilaply_narrow : manilaply_widen, moved, n, length, 0, recording, length);
 }
 
 /* A line: the header, tab, the register's number, tab, the code, tab, what is returned, tab, the six bytes or '-'. */
@@ -131,7 +131,8 @@ static void by_file(const char *path, unsigned long least, void by(const uint8_t
 int main(void)
 {
     by_file("tests/vectors/whole.txt", 1000, by_line);
-    by_file("tests/vectors/requests.txt", 390, by_line);
+    by_file("tests/vectors/requests.txt", 750, by_line);
+    by_file("tests/vectors/moves.txt", 170, by_move);
     by_file("tests/vectors/registers.txt", 300, by_code);
     return told("vectors");
 }
