@@ -1,7 +1,7 @@
 """The verdict in one line that begins with a file and an offset, as compilers write them."""
 
 from fields import refused
-from words import NAMES
+from words import NAMES, OF_RANK
 
 # The commands that speak of one bank.
 BANKED = {'ACT', 'RD', 'RDA', 'WR', 'WRA', 'PRE'}
@@ -20,15 +20,16 @@ def command(said, what):
 
 
 def told(said, last):
-    """The line for these values; `last` is the file where the recording ends."""
+    """The line for the values of a rank; `last` is the file where the recording ends."""
+    rank = OF_RANK[said['rank']] + ': ' if 'rank' in said else ''
     if said['outcome'] == 'clean':
-        return f'{last}: clean, {said["count_all"]} records up to edge {said["edge"]}'
+        return f'{last}: {rank}clean, {said["count_all"]} records up to edge {said["edge"]}'
     if said['outcome'] == 'none':
         at = f':0x{int(said["refused_byte"]):x}' if 'refused_byte' in said else ''
         number = f'refused {said["refused"]}: ' if 'refused' in said else ''
         return f'{said["trouble_file"]}{at}: {number}{said["why"]}'
     rule = int(said['rule'])
-    name = f'rule {rule} ({NAMES[rule]})'
+    name = f'{rank}rule {rule} ({NAMES[rule]})'
     if 'record_file' not in said:
         return f'{last}: {name}: {passed(said, rule)}'
     if rule == 1:

@@ -3,7 +3,7 @@ which is not proved; counts and debt must come to those of the proved program, o
 
 from decode import behind_header, joined, opened, records
 from drawing import Sheet
-from glossary import Names, by_levels, rows
+from glossary import SELECTS, Names, by_levels, rows
 from programs import Failed
 
 BARS = 120
@@ -42,7 +42,7 @@ class Use:
     def walk(self, said, names):
         _, layout = opened(names)
         found = rows(said)
-        named = Names(by_levels(found), layout)
+        named = Names(by_levels(found), layout, SELECTS[said.get('rank', '1')])
         kinds = {name: next(kind for kind, (_, some) in KINDS.items() if some is None or name in some) for name, _ in found if name not in NOTHING}
         last, asleep = 0, False
         for edge, word in records(behind_header(joined(names)), layout):
@@ -79,15 +79,15 @@ class Use:
             last = some[2] if some else last
 
 
-def bus_use(said, names, heading, inline):
-    """The SVG text."""
+def bus_use(said, names, heading):
+    """The sheet and its height."""
     use, sheet, y = Use(said, names), Sheet(LEFT + WIDTH + RIGHT), 34
     for i, words in enumerate(heading):
         y = sheet.lines('head' if i == 0 else '', 24, y, words, 18 if i == 0 else 12)
     y = commands(sheet, use, said, y + 24)
     y = debts(sheet, use, said, y + 44)
     y = sheet.lines('small faint', 24, y + 30, REMARK, 11)
-    return sheet.svg('; '.join(heading), y + 6, inline)
+    return sheet, y + 6
 
 
 def commands(sheet, use, said, y):

@@ -80,5 +80,14 @@ class Sheet:
         return first + '\n'.join([head, f'<title>{escape(title)}</title>', f'<style>{STYLE}</style>', PATTERNS, ground, *self.parts, '</svg>', ''])
 
 
+def stacked(sheets):
+    """Sheets of these heights, one below the other, as one."""
+    whole, y = Sheet(max(sheet.width for sheet, _ in sheets)), 0
+    for sheet, height in sheets:
+        whole.parts += [f'<g transform="translate(0 {number(y)})">', *sheet.parts, '</g>']
+        y += height
+    return whole, y
+
+
 def number(value):
     return value if isinstance(value, str) else f'{value:.2f}'.rstrip('0').rstrip('.')

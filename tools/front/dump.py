@@ -4,7 +4,8 @@ Edge e rises at e times the period. The pins of an edge take their levels half a
 between records the rank is deselected. All wires are single ones: sigrok 0.5 stops at a vector, and gtkwave joins A[15] to A[0] by itself."""
 
 CODES = '!"%&\'()*+,-./:;<=>?@[\\]^_`{|}~ACDEFGHIJKLMNOPQTUVWYZ'  # of wires; no # or $, which begin other things
-CK, BREAK, PARTNER = 'CK', 'BREAK', 'PARTNER'
+CK = 'CK'
+MARKS = {'1': ('BREAK', 'PARTNER'), '2': ('BREAK1', 'PARTNER1')}  # by rank
 AT_ONCE = 4096  # edges of the clock that are written together
 
 
@@ -15,7 +16,7 @@ class Dump:
         self.write, self.layout, self.gap = file.write, layout, gap
         self.unit = next(unit for unit in (100, 10, 1) if period % unit == 0)
         self.period, self.high = period // self.unit, period // self.unit // 2
-        self.marks = {name: 1 << layout.below + i for i, name in enumerate((BREAK, PARTNER))}
+        self.marks = {name: 1 << layout.below + i for i, name in enumerate(marks(layout))}
         names = dict(wires(layout)) | {name: bit.bit_length() - 1 for name, bit in self.marks.items()}
         self.codes = dict(zip([CK, *names, *strings(layout)], CODES))
         self.at = {place: self.codes[name] for name, place in names.items()}
@@ -89,6 +90,11 @@ def wires(layout):
 def strings(layout):
     """The variables with the commands' names, one for each select."""
     return {'command': 'CS', 'command1': 'CS1'} if 'CS1' in layout.pins else {'command': 'CS'}
+
+
+def marks(layout):
+    """The markers, two for each select."""
+    return [name for rank in (MARKS if 'CS1' in layout.pins else '1') for name in MARKS[rank]]
 
 
 def lines(codes):

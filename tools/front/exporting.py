@@ -1,31 +1,27 @@
 """From a recording of either edition to a value change dump, with the commands' names and marks at the break and its partner."""
 
-import os
-
 from decode import behind_header, joined, opened, records
-from dump import BREAK, PARTNER, Dump, strings
+from dump import MARKS, Dump, strings
 from files import Unreadable, refuse_at_once, shown
 from glossary import Names, by_levels, rows
-from layout import HEADER, as_first_edition, period_of
-from programs import answer, built
+from layout import period_of
+from programs import built
 from tell import Progress
-from words import REFUSALS
+from values import ranks
 from written import beside, refuse_over
 
 DRAWN_MOST = 1 << 26  # edges
 
 
 def exported(wanted, judged):
-    """Writes the dump; the line that tells of it. judged: gives the values of an edition 1 recording, and raises where it cannot be judged."""
+    """Writes the dump; the line that tells of it. judged: gives the values of the recording, and raises where it cannot be judged."""
     for name in wanted.files:
         refuse_at_once(name, twice=True)
     refuse_over(wanted.out, wanted.files)
     for program in 'verdict', 'lot':
         built(program)
     first, layout = opened(wanted.files)
-    said = judged() if layout.edition == 1 else None
-    if layout.edition == 2:
-        refuse_unjudged(wanted.files, first, layout)
+    said = judged()
     count, last, drawn = measured(read(wanted.files, layout), wanted.gap)
     if drawn > DRAWN_MOST:
         raise Unreadable(f'{shown(wanted.files[0])}: {drawn} edges of the clock are more than the {DRAWN_MOST} that are drawn at most; '
@@ -73,29 +69,19 @@ def draw(dump, found, said, progress):
 
 
 def marks(dump, said):
-    """The edges that bear a mark, and the verdict as a remark."""
-    if said is None:
-        return {}, 'edition 2, not judged'
-    if said['outcome'] == 'clean':
-        return {}, f'clean {said["count_all"]} {said["edge"]}'
-    found = {int(said['edge']): dump.marks[BREAK]}
-    if said['partner'] != '0':
-        edge = int(said['partner_edge'])
-        found[edge] = found.get(edge, 0) | dump.marks[PARTNER]
-    return found, 'broken ' + ' '.join(said[key] for key in ('rule', 'record', 'partner', 'edge', 'needed', 'found'))
+    """The edges that bear a mark, and the verdicts as a remark."""
+    found, remarks = {}, []
+    for own in ranks(said):
+        if own['outcome'] == 'clean':
+            remarks.append(f'clean {own["count_all"]} {own["edge"]}')
+            continue
+        at_break, at_partner = (dump.marks[name] for name in MARKS[own.get('rank', '1')])
+        remarks.append('broken ' + ' '.join(own[key] for key in ('rule', 'record', 'partner', 'edge', 'needed', 'found')))
+        mark(found, own['edge'], at_break)
+        if own['partner'] != '0':
+            mark(found, own['partner_edge'], at_partner)
+    return dict(sorted(found.items())), ' ; '.join(remarks)
 
 
-def refuse_unjudged(names, first, layout):
-    """Raises where an edition 2 recording has a wrong header, ends within a record, or has a record with step 0 or bits that must be 0."""
-    said = answer('verdict', [as_first_edition(first)])
-    if said != b'clean 0 0\n':
-        raise Unreadable(f'{shown(names[0])}: {REFUSALS[int(said.split()[1])]}')
-    for i, name in enumerate(names):
-        size = os.stat(name).st_size - (HEADER if i == 0 else 0)
-        if size < 0 or size % layout.size:
-            raise Unreadable(f'{shown(name)}: it does not end between records')
-    last = 0
-    for count, (edge, word) in enumerate(read(names, layout), 1):
-        if edge == last or word & ~layout.all:
-            raise Unreadable(f'{shown(names[0])}: record {count}: ' + ('its step is 0' if edge == last else 'a bit that must be 0 is 1'))
-        last = edge
+def mark(found, edge, bit):
+    found[int(edge)] = found.get(int(edge), 0) | bit

@@ -6,6 +6,7 @@ from programs import answer
 from values import keyed, taken_apart
 
 PLAIN = bytes.fromhex('1405dc000000')  # a header that is taken, of a recording of no records
+SELECTS = {'1': 'CS', '2': 'CS1'}  # by rank
 
 
 def rows(said=None):

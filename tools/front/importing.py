@@ -7,13 +7,13 @@ from compared import Compared
 from csv_read import Csv
 from decode import behind_header, records
 from files import PART, Damaged, Unreadable, hashed, parts, refuse_at_once, shown
-from layout import BINS, EDITIONS, HEADER, as_first_edition, header
+from layout import BINS, HEADER, header
 from pins import Pins, of_file
 from programs import Failed, answer, built
 from report import ns_of
 from sampled import Sampler, Writer
 from tell import Progress, complain
-from values import keyed, taken_apart
+from values import keyed, ranks, taken_apart
 from vcd_read import Vcd
 from words import REFUSALS
 from written import beside, refuse_over
@@ -144,9 +144,11 @@ class Import:
 
     def counted(self, place):
         """How many records of each command, by the proved program; of edition 2 for each of the two selects."""
-        if self.layout.edition == 1:
-            return counts(answer('lot', [], place))
-        return [f'CS{rank}: {", ".join(counts(answer("lot", narrowed(self.file, self.layout, rank), b"/dev/stdin")))}' for rank in (0, 1)]
+        found = keyed(taken_apart(answer('lot', [], place)))
+        if found.get('outcome') == 'none':
+            raise Failed(f'the judge does not take what was written: {found["why"]}')
+        own = [counts(rank) for rank in ranks(found)]
+        return own[0] if len(own) == 1 else [f'CS{i}: {", ".join(some)}' for i, some in enumerate(own)]
 
 
 def measured(clock):
@@ -162,18 +164,5 @@ def pieces(file):
         yield part
 
 
-def counts(said):
-    found = keyed(taken_apart(said))
-    if found['outcome'] == 'none':
-        raise Failed(f'the judge does not take what was written: {found["why"]}')
+def counts(found):
     return [f'{key[6:]} {value}' for key, value in found.items() if key.startswith('count_') and key != 'count_all' and value != '0']
-
-
-def narrowed(file, layout, rank):
-    """A recording of edition 2 as one of edition 1, with this select for CS."""
-    one, last = EDITIONS[1], 0
-    file.seek(0)
-    yield as_first_edition(file.read(HEADER))
-    for edge, word in records(behind_header(pieces(file)), layout):
-        yield one.record(edge - last, sum(layout.get(word, 'CS1' if (name, rank) == ('CS', 1) else name) << low for name, (low, _) in one.pins.items()))
-        last = edge

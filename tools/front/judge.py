@@ -6,37 +6,45 @@ import sys
 from brief import told
 from files import Unreadable, parts, refuse_at_once, shown
 from identity import commit, kit
-from options import HELP, USAGE, WRITES, Wrong, asked
+from layout import EDITIONS, HEADER, edition_of
+from options import HELP, MOVES, USAGE, WRITES, Wrong, asked
 from programs import Failed, answer, built
 from records import around, table
-from report import report
+from report import heading, report
 from tell import complain
-from values import as_json, lines, listed, said
+from values import as_json, lines, listed, ranks, said
 
 CLEAN, BROKEN, NONE, LOST = 0, 1, 2, 3
 STATUS = {b'clean': CLEAN, b'broken': BROKEN, b'refused': NONE}
 OUTCOME = {'clean': CLEAN, 'broken': BROKEN, 'none': NONE}
-HEADER = RECORD = 6
 
 
-def status(line):
-    """By the first word of a verdict's line."""
-    word = line.split(b' ')[0].strip()
-    if word not in STATUS:
+def status(text):
+    """By the first words of the verdicts' lines, one a rank: the worst."""
+    words = [line.split(b' ')[0] for line in text.splitlines()]
+    if not words or not set(words) <= STATUS.keys():
         raise Failed('the program gave no verdict')
-    return STATUS[word]
+    return max(STATUS[word] for word in words)
 
 
 def is_header(first):
     """Six bytes that opening takes: by themselves they are a recording of no records."""
-    return len(first) == HEADER and answer('verdict', [first]) == b'clean 0 0\n'
+    return len(first) == HEADER and set(answer('verdict', [first]).splitlines()) == {b'clean 0 0'}
+
+
+def record_size(first):
+    """Of a recording that begins so."""
+    layout = EDITIONS.get(edition_of(first)) if first else None
+    return (layout or EDITIONS[1]).size
 
 
 def joined(names):
     """The files one after the other, each of whole records behind the header. It ends with one that is not, and the program then says so."""
+    record = 0
     for i, name in enumerate(names):
         size, first = 0, b''
         for part in parts(name):
+            record = record or record_size(part)
             if i and size < HEADER:
                 first += part[:HEADER - size]
                 if is_header(first):
@@ -45,7 +53,7 @@ def joined(names):
             yield part
         if size == 0:
             raise Unreadable(f'{shown(name)}: it is empty')
-        if size % RECORD or i == 0 and size < HEADER:
+        if (size if i else size - HEADER) % record or i == 0 and size < HEADER:
             if len(names) > 1:
                 complain(f'{shown(name)} does not end between records')
             return
@@ -64,19 +72,25 @@ def judge(names):
 
 
 def each(names):
-    """One line a file, and the worst status."""
+    """One line a file, or in edition 2 one a rank, and the worst status."""
     built('verdict')
     worst = CLEAN
     for name in names:
         try:
             refuse_at_once(name, twice=False)
-            line = answer('verdict', joined([name]))
-            worst = max(worst, status(line))
+            text = answer('verdict', joined([name]))
+            worst = max(worst, status(text))
         except Unreadable as error:
             complain(error)
-            line, worst = b'none\n', max(worst, NONE)
-        write(shown(name).encode('utf-8', 'surrogateescape') + b': ' + line)
+            text, worst = b'none\n', max(worst, NONE)
+        for line in of_file(text.splitlines()):
+            write(shown(name).encode('utf-8', 'surrogateescape') + b': ' + line + b'\n')
     return b'', worst
+
+
+def of_file(found):
+    """The lines, with the rank before each where there are two."""
+    return found if len(found) == 1 else [b'rank %d: %b' % (rank, line) for rank, line in enumerate(found, 1)]
 
 
 def ready_to_report(names):
@@ -101,7 +115,7 @@ def laid_out(wanted):
     if wanted.mode == 'json':
         text = as_json(found)
     elif wanted.mode == 'brief':
-        text = text_of([told(found, last)])
+        text = text_of(told(own, last) for own in ranks(found))
     elif wanted.values:
         text = lines(found)
     else:
@@ -114,10 +128,11 @@ def text_of(some):
 
 
 def listing(wanted):
-    found, (first, last) = told_of(wanted.files), wanted.range
-    if (first, last) == (0, 0):
-        first, last = around(found)
-    return text_of(table(found, listed(wanted.files, first, last), wanted.files)), OUTCOME[found['outcome']]
+    found, lines_ = told_of(wanted.files), []
+    for own in ranks(found):
+        first, last = around(own) if wanted.range == (0, 0) else wanted.range
+        lines_ += [*heading(own), *table(own, listed(wanted.files, first, last, own.get('rank', '1')), wanted.files)]
+    return text_of(lines_), OUTCOME[found['outcome']]
 
 
 def judged(names):
@@ -133,6 +148,11 @@ def to_a_file(wanted):
     from writing import wrote
     some, outcome = wrote(wanted, lambda: judged(wanted.files))
     return text_of(some), OUTCOME[outcome]
+
+
+def moved_to(wanted):
+    from moving import moved
+    return text_of(moved(wanted)), CLEAN
 
 
 def version():
@@ -158,6 +178,8 @@ def run(words):
         return listing(wanted)
     if wanted.mode in WRITES:
         return to_a_file(wanted)
+    if wanted.mode in MOVES:
+        return moved_to(wanted)
     return judge(wanted.files)
 
 

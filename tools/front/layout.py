@@ -49,10 +49,6 @@ def header(edition, bin_, density, width, hot, period):
     return (edition << FIRST_BITS | bin_ << 42 | density << 41 | width << 40 | hot << 39 | period << 24).to_bytes(HEADER, 'big')
 
 
-def as_first_edition(first):
-    return bytes([first[0] & 15 | 1 << 4]) + first[1:]
-
-
 def edition_of(first):
     return first[0] >> 4
 

@@ -6,8 +6,9 @@ from layout import BINS
 from pins import asked_pin
 
 MODES = {'--lot': 'lot', '--each': 'each', '--brief': 'brief', '--json': 'json', '--list': 'list', '--import': 'import', '--export': 'export',
-         '--picture': 'picture', '--page': 'page', '--help': 'help', '-h': 'help', '--version': 'version'}
+         '--picture': 'picture', '--page': 'page', '--widen': 'widen', '--narrow': 'narrow', '--help': 'help', '-h': 'help', '--version': 'version'}
 WRITES = {'import', 'export', 'picture', 'page'}  # the word behind these is the file to write
+MOVES = {'widen', 'narrow'}
 
 # Options of one mode, and the ways in which they are said.
 OF_MODE = {'--values': 'lot', '--files': 'lot', '--pin': 'import', '--pins': 'import', '--bin': 'import', '--density': 'import', '--width': 'import',
@@ -16,10 +17,11 @@ CHOICES = {'--bin': BINS, '--density': ['1', '2'], '--width': ['8', '16'], '--x'
 
 USAGE = '''usage: judge [--each | --brief | --json | --list FROM-TO | --lot [--values | --files]] [--] FILE..
        judge [--export OUT [--gap N] | --picture OUT | --page OUT] [--] FILE..
+       judge --widen | --narrow [--] IN OUT
        judge --import OUT --bin BIN --density GB --width BITS [..] [--] CAPTURE    (judge --help tells more)'''
 
 HELP = '''judge FILE..                    judges one DDR3 command recording, given as one or several files in order
-judge --each FILE..             judges each file as a recording of its own: one line a file, FILE: and its verdict
+judge --each FILE..             judges each file as a recording of its own: one line a file, FILE: and its verdict; of edition 2 one a rank
 judge --lot FILE..              reports on one recording in full: the verdict and how it comes about, how many records of each command,
                                 banks, registers and refresh debt; --files: a line for each of many files
 judge --lot --values FILE..     the same, one value a line, for a program
@@ -40,16 +42,18 @@ judge --import OUT CAPTURE      makes a recording of a VCD or of sigrok's CSV. T
     --pins FILE                 the same from a file, NAME=WIRE a line
     --x 0|1                     an unknown level counts as that where it matters, and is counted; without it it is an error
     --still                     the clock may stand still; its edges are then counted by time (with --period)
+judge --widen IN OUT            moves a recording of edition 1 to edition 2
+judge --narrow IN OUT           moves one of edition 2 back, where every record has RESET 1, the second CS 1 and ODT 0
 judge --version                 prints the commit of these sources and the kit that proves them
 judge --help                    prints this
 
 Options may stand anywhere before `--`; what comes after it is a file. The file - is standard input.
-The last line on standard output is the verdict:
+The last line on standard output is the verdict; of edition 2 the last two, the first rank's first:
     clean RECORDS EDGE
     broken RULE RECORD PARTNER EDGE NEEDED FOUND
     refused NUMBER
 README.md tells what the numbers mean. The status is the worst of the verdicts':
-    0  clean; a capture was imported, a recording exported
+    0  clean; a capture was imported, a recording exported or moved
     1  broken
     2  refused, or there is no verdict: a wrong option, a file that cannot be read, a damaged capture
     3  the answer could not be written, or the program could not be built or run
@@ -115,6 +119,8 @@ class Asked:
             raise Wrong('there is no file to judge' if self.mode != 'import' else 'there is no capture')
         if self.mode == 'import':
             self.whole_import()
+        if self.mode in MOVES and len(self.files) != 2:
+            raise Wrong(f'--{self.mode} wants the file to read and the file to write')
         return self
 
     def whole_import(self):

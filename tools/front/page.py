@@ -8,9 +8,9 @@ from files import hashed, parts, shown
 from identity import commit, kit
 from picture import picture
 from records import around
-from report import debt, hexed, ns, part, report
+from report import debt, heading, hexed, ns, part, verdict
 from sums import SHOWN
-from values import listed
+from values import listed, ranks
 
 STYLE = '''
 body { font-family: "DejaVu Sans", Verdana, Arial, sans-serif; font-size: 14px; line-height: 1.4; color: #000; background: #fff; }
@@ -48,25 +48,32 @@ UNPROVED = ('Layout, words, picture and this page; and, where the recording was 
 
 def page(said, names):
     """The HTML text."""
-    lines, broken = report(said, shown(names[-1]), True), said['outcome'] == 'broken'
-    now = datetime.datetime.now(datetime.timezone.utc).strftime('%Y-%m-%d %H:%M:%S UTC')
-    told = lines[:lines.index('')]  # the tables follow as such
-    chapters = {
-        'Picture': picture(said, names, inline=True),
-        'Report': f'<pre>{escape(chr(10).join(told))}</pre>',
-        'Records around the break' if broken else 'The last records': records(said, names),
-        'Files': files(said, names),
-        'Commands': commands(said),
-        'The part\'s times in clocks': times(said),
-        'Just before the broken edge' if broken else 'At the end': ending(said),
-        'Where this comes from': table([], [['Written', now], ['Sources', f'manilaply {commit()}'], ['Kit', kit()], ['Proved', PROVED],
-                                            ['Not proved', UNPROVED]]),
-    }
+    found, now = ranks(said), datetime.datetime.now(datetime.timezone.utc).strftime('%Y-%m-%d %H:%M:%S UTC')
+    verdicts = {id(own): verdict(own, shown(names[-1])) for own in found}
+    first = [''.join(f'{words}. ' for words in heading(own)) + verdicts[id(own)][0] for own in found]
+    chapters = {'Picture': picture(said, names, inline=True)}
+    for own in found:
+        chapters[of(own, 'Report')] = f'<pre>{escape(chr(10).join(verdicts[id(own)]))}</pre>'
+    for own in found:
+        chapters[of(own, 'Records around the break' if own['outcome'] == 'broken' else 'The last records')] = records(own, names)
+    chapters['Files'] = files(said, names)
+    for own in found:
+        chapters[of(own, 'Commands')] = commands(own)
+    chapters['The part\'s times in clocks'] = times(said)
+    for own in found:
+        chapters[of(own, 'Just before the broken edge' if own['outcome'] == 'broken' else 'At the end')] = ending(own)
+    chapters['Where this comes from'] = table([], [['Written', now], ['Sources', f'manilaply {commit()}'], ['Kit', kit()], ['Proved', PROVED], ['Not proved', UNPROVED]])
     body = ''.join(f'<h2>{escape(title)}</h2>\n{content}\n' for title, content in chapters.items())
-    recording = f'{said["count_all"]} records in {len(names)} file{"s" * (len(names) > 1)}'
+    recording = f'{found[0]["count_all"]} records in {len(names)} file{"s" * (len(names) > 1)}'
     lot = table([], [['Part', part(said).removeprefix('Part: ')], ['Recording', recording], ['Written', now]])
-    return (f'<!DOCTYPE html>\n<html lang="en">\n<head>\n<meta charset="utf-8">\n<title>{escape(lines[0])}</title>\n<style>{STYLE}</style>\n</head>\n<body>\n'
-            f'<h1>Report on a DDR3 command recording</h1>\n<p class="verdict">{escape(lines[0])}</p>\n{lot}\n{body}</body>\n</html>\n')
+    box = '\n'.join(f'<p class="verdict">{escape(line)}</p>' for line in first)
+    return (f'<!DOCTYPE html>\n<html lang="en">\n<head>\n<meta charset="utf-8">\n<title>{escape("; ".join(first))}</title>\n<style>{STYLE}</style>\n</head>\n<body>\n'
+            f'<h1>Report on a DDR3 command recording</h1>\n{box}\n{lot}\n{body}</body>\n</html>\n')
+
+
+def of(own, title):
+    """A chapter's title, with the rank where there are two."""
+    return ''.join(f'{words}: ' for words in heading(own)) + title
 
 
 def table(heads, rows, kinds='', marked=()):
@@ -83,7 +90,7 @@ def table(heads, rows, kinds='', marked=()):
 
 
 def records(said, names):
-    found = listed(names, *around(said))
+    found = listed(names, *around(said), said.get('rank', '1'))
     rows = [[str(r['number']), r['edge'], ns(said, r['edge'])[:-3], f'{r["cke_before"]} {r["cke"]}', f'{int(r["pins"]):04b}', r['command'], r['bank'],
              r['address'], hexed(r['bytes']), f'{shown(names[int(r["file"]) - 1])}:0x{int(r["byte"]):x}'] for r in found]
     marked = [i for i, r in enumerate(found) if said['outcome'] == 'broken' and str(r['number']) in (said['record'], said['partner'])]

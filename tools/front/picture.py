@@ -2,10 +2,12 @@
 
 from brief import BANKED, asleep
 from bususe import bus_use
-from drawing import BOLD, WIDE, Sheet
+from drawing import BOLD, WIDE, Sheet, stacked
 from files import shown
 from report import broken, ns, part
+from report import heading as rank
 from slots import fitting
+from values import ranks
 from words import NAMES, RULES
 
 GUTTER, MARGIN, GAP, LEAST = 92, 24, 5, 980
@@ -20,19 +22,22 @@ SHORT = {'FORBIDDEN': 'CKE !', 'IGNORED': 'low'}
 
 
 def picture(said, names, inline=False):
-    """The SVG text. inline: as a part of a page of HTML."""
-    if said['outcome'] == 'clean':
-        return bus_use(said, names, heading(said, names), inline)
-    return Drawing(said, names).svg(inline)
+    """The SVG text: each rank that is broken, or all where none is. inline: as a part of a page of HTML."""
+    drawn = [own for own in ranks(said) if own['outcome'] == 'broken'] or ranks(said)
+    heads = [heading(own, names) for own in drawn]
+    sheets = [bus_use(own, names, head) if own['outcome'] == 'clean' else Drawing(own, names).drawn(head) for own, head in zip(drawn, heads)]
+    sheet, height = sheets[0] if len(sheets) == 1 else stacked(sheets)
+    return sheet.svg('; '.join(words for head in heads for words in head), height, inline)
 
 
 def heading(said, names):
     """Verdict, rule, lot and part."""
     at = f'edge {said["edge"]} ({ns(said, said["edge"])})'
+    which = ''.join(f'{words}. ' for words in rank(said))
     if said['outcome'] == 'clean':
-        return [f'Verdict: clean up to {at}', lot(said, names), part(said)]
+        return [f'{which}Verdict: clean up to {at}', lot(said, names), part(said)]
     rule = int(said['rule'])
-    return [f'Verdict: broken at {at} by rule {rule} ({NAMES[rule]})', f'Rule {rule}: {RULES[rule]}', lot(said, names), part(said)]
+    return [f'{which}Verdict: broken at {at} by rule {rule} ({NAMES[rule]})', f'Rule {rule}: {RULES[rule]}', lot(said, names), part(said)]
 
 
 def lot(said, names):
@@ -57,8 +62,9 @@ class Drawing:
         self.sheet = Sheet(max(LEAST, x + MARGIN, *(slot.x + len(words) * 12 * BOLD + MARGIN for slot, _, words, _ in self.marks())))
         self.tops = {}
 
-    def svg(self, inline):
-        sheet, y, head = self.sheet, 34, heading(self.said, self.names)
+    def drawn(self, head):
+        """The sheet and its height."""
+        sheet, y = self.sheet, 34
         for i, words in enumerate(head):
             y = sheet.lines('head' if i == 0 else '', MARGIN, y, words, 18 if i == 0 else 12)
         for lane, height in {**LABELS, **RULERS, **WIRES, **BUSES}.items():
@@ -72,7 +78,7 @@ class Drawing:
             for line in words.split('\n'):
                 y = sheet.lines('', MARGIN, y, line)
         y = sheet.lines('small faint', MARGIN, y + 8, REMARK, 11)
-        return sheet.svg('; '.join(head), y + 4, inline)
+        return sheet, y + 4
 
     def marks(self):
         """The two places of the break: slot, filling and what it is. The earlier one's words end with its slot, the other's begin with it."""

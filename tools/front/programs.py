@@ -35,7 +35,7 @@ def built(name):
     if not rt:
         raise Failed(f'the program {what}, and rt is not to be found to build it (README.md, "Use")')
     if not os.access(ROOT, os.W_OK):
-        raise Failed(f'the program {what}, and {ROOT} cannot be written; run `rt check verdict lot` where it can')
+        raise Failed(f'the program {what}, and {ROOT} cannot be written; run `rt check verdict lot mover` where it can')
     print(f'judge: proving and building {name}; this takes some minutes, once', file=sys.stderr, flush=True)
     prove(rt, name)
 
@@ -78,3 +78,14 @@ def answer(name, parts, *words):
     if run.returncode != 0:
         raise Failed(f'the program did not end well (status {run.returncode})')
     return said
+
+
+def written_by(name, file, *words):
+    """Runs the program with its standard output into the file; what it says on standard error."""
+    try:
+        ran = subprocess.run(command(name, *words), stdin=subprocess.DEVNULL, stdout=file, stderr=subprocess.PIPE, check=False)
+    except OSError as error:
+        raise Failed(f'the program could not be run: {error.strerror}') from None
+    if ran.returncode != 0:
+        raise Failed(f'the program did not end well (status {ran.returncode})')
+    return ran.stderr.decode(errors='replace')

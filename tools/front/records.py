@@ -16,7 +16,8 @@ def around(said):
 
 def table(said, found, names):
     """A line a record."""
-    yield f'{"record":>7} {"edge":>14} {"ns":>16}  CKE  pins  {"command":<9} BA A     bytes              file and byte'
+    wide = 3 * (8 if 'edition' in said else 6)
+    yield f'{"record":>7} {"edge":>14} {"ns":>16}  CKE  pins  {"command":<9} BA A     {"bytes":<{wide}} file and byte'
     for r in found:
         mark = '*' if str(r['number']) == said.get('record') else ' '
         yield (f'{r["number"]:>7}{mark}{r["edge"]:>14} {ns(said, r["edge"])[:-3]:>16}  {r["cke_before"]} {r["cke"]}  {int(r["pins"]):04b}  {r["command"]:<9} {r["bank"]}  {r["address"]}  '

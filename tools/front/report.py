@@ -3,7 +3,8 @@
 from brief import asleep, command, place, told
 from layout import BINS
 from sums import needed
-from words import RULES
+from values import ranks
+from words import OF_RANK, RULES
 
 
 def ns(said, edge):
@@ -63,9 +64,9 @@ def part(said):
 
 
 def files(said, every):
-    """A line a file; of many the first, the last and those that concern the break."""
+    """A line a file; of many the first, the last and those that concern a break."""
     count = sum(1 for key in said if key.startswith('file') and key[4:].isdigit())
-    concerned = {said.get(f'{what}_file') for what in ('record', 'partner', 'earlier', 'later')}
+    concerned = {own.get(f'{what}_file') for own in ranks(said) for what in ('record', 'partner', 'earlier', 'later')}
     yield 'Files, in order'
     skipped = 0
     for i in range(1, count + 1):
@@ -108,10 +109,22 @@ def debt(n):
     return f'{n} owed' if n else 'none'
 
 
+def verdict(own, last):
+    """The verdict of a rank and how it comes about."""
+    if own['outcome'] == 'broken':
+        return list(broken(own, last))
+    return [f'Verdict: clean, {own["count_all"]} records up to {at(own, own["edge"])}']
+
+
+def heading(own):
+    """What stands over that which is told of a rank; nothing where there is one."""
+    return [OF_RANK[own['rank']].capitalize()] if 'rank' in own else []
+
+
 def report(said, last, every):
     """All of it, as lines."""
     if said['outcome'] == 'none':
         return [f'No verdict. {told(said, last)}']
-    first = list(broken(said, last)) if said['outcome'] == 'broken' else \
-        [f'Verdict: clean, {said["count_all"]} records up to {at(said, said["edge"])}']
-    return [*first, '', part(said), '', *files(said, every), '', *commands(said), '', *ending(said)]
+    verdicts = [line for own in ranks(said) for line in (*heading(own), *verdict(own, last), '')]
+    tables = [line for own in ranks(said) for line in ('', *heading(own), *commands(own), '', *ending(own))]
+    return [*verdicts, part(said), '', *files(said, every), *tables]

@@ -41,7 +41,7 @@ class Break:
         self.counted = self.rule not in (1, 2, 3, 23, 25)
         self.start = self.edge - int(said['found']) if self.counted and self.rule != 31 else self.partner_edge
         self.limit = self.edge - int(said['found']) + int(said['needed']) if self.counted else None
-        self.records = {int(r['edge']): r for first, last in self.ranges() for r in listed(names, first, last)}
+        self.records = {int(r['edge']): r for first, last in self.ranges() for r in listed(names, first, last, said.get('rank', '1'))}
 
     def ranges(self):
         """The numbers of the records that are drawn, in one run or two."""

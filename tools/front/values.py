@@ -1,5 +1,6 @@
 """What the proved program `lot` says of one recording, as values with one key each: a file bears its number, a row of the glossary its
-command's name. The program is handed numbered files and prints no name, so that none can make a line."""
+command's name, and in edition 2 what belongs to a rank that rank's, as rank1_edge. The program is handed numbered files and prints no name,
+so that none can make a line."""
 
 import json
 import re
@@ -16,7 +17,10 @@ READING = {
 }
 
 # Codes, rows, addresses, levels and bytes are digits and no numbers.
-DIGITS = re.compile(r'levels_\w+|\w+_(address|row|bytes|pins)|mr[0-3]')
+DIGITS = re.compile(r'levels_\w+|\w+_(address|row|bytes|pins)|(rank[12]_)?mr[0-3]')
+
+RANKS = ['1', '2']
+AS_SEEN = {'1': b'--list', '2': b'--second'}  # records as this rank sees them
 
 
 def printed(names, *words):
@@ -32,29 +36,44 @@ def taken_apart(text):
 def said(names, run=printed):
     """The values of the recording that stands in these files, in order. run: runs the program and takes its lines apart."""
     found = keyed(run(names))
-    if found['outcome'] == 'broken':
-        found.update(records(found, names, run))
+    for own in ranks(found):
+        if own['outcome'] == 'broken':
+            found.update({f'{prefix(own)}{key}': value for key, value in records(own, names, run)})
+    if 'outcome' not in found:
+        found['outcome'] = 'broken' if 'broken' in (own['outcome'] for own in ranks(found)) else 'clean'
     return with_names(found, names)
 
 
-def records(found, names, run):
+def prefix(own):
+    return f'rank{own["rank"]}_' if 'rank' in own else ''
+
+
+def ranks(found):
+    """What is known of each rank, under the keys of a recording of one. One of edition 1, or that has no verdict, is its own."""
+    if 'rank1_outcome' not in found:
+        return [found]
+    shared = {key: value for key, value in found.items() if not key.startswith('rank') and key != 'outcome'}
+    return [{**shared, **{key[len('rank1_'):]: value for key, value in found.items() if key.startswith(f'rank{rank}_')}, 'rank': rank} for rank in RANKS]
+
+
+def records(own, names, run):
     """The two records of a break; where it is a deadline, those on either side of its edge."""
-    wanted = {'record': int(found['record']), 'partner': int(found['partner'])}
-    if found['record'] == '0':
-        before = int(dict(run(names, b'--list', b'1', b'0', found['edge'].encode()))['records_before'])
+    wanted, rank = {'record': int(own['record']), 'partner': int(own['partner'])}, own.get('rank', '1')
+    if own['record'] == '0':
+        before = int(dict(run(names, AS_SEEN[rank], b'1', b'0', own['edge'].encode()))['records_before'])
         wanted |= {'earlier': before, 'later': before + 1}
     for what, number in wanted.items():
-        for record in listed(names, number, number, run):
+        for record in listed(names, number, number, rank, run):
             yield what, str(record['number'])
             for key, value in record.items():
                 if key != 'number':
                     yield from laid(f'{what}_{key}', value).items()
 
 
-def listed(names, first, last, run=printed):
-    """The records with these numbers, each a dictionary."""
+def listed(names, first, last, rank='1', run=printed):
+    """The records with these numbers as the rank sees them, each a dictionary."""
     found = []
-    for key, value in run(names, b'--list', b'%d' % first, b'%d' % last, b'0'):
+    for key, value in run(names, AS_SEEN[rank], b'%d' % first, b'%d' % last, b'0'):
         if key == 'list':
             found.append({'number': int(value)})
         elif key.startswith('list_'):
@@ -65,9 +84,11 @@ def listed(names, first, last, run=printed):
 def keyed(lines):
     """Each value under a key of its own."""
     found = {}
-    file, command, patterns = '', '', {}
+    file, command, patterns, rank = '', '', {}, ''
     for key, value in lines:
-        if key == 'file':
+        if key == 'rank':
+            rank, patterns = f'rank{value}_', {}
+        elif key == 'file':
             file = value
             found[f'file{file}'] = value
         elif key.startswith('file_'):
@@ -77,10 +98,12 @@ def keyed(lines):
             patterns[command] = patterns.get(command, 0) + 1
         elif key == 'row_levels':
             found[f'levels_{command}_{patterns[command]}'] = value
+        elif key == 'row_meaning':
+            found[f'meaning_{command}'] = value
         elif key.startswith('row_'):
-            found[f'{key[4:]}_{command}'] = value
+            found[f'{rank}{key[4:]}_{command}'] = value
         else:
-            found.update(laid(key, value))
+            found.update({f'{rank}{name}': text for name, text in laid(key, value).items()})
     return found
 
 

@@ -1,10 +1,13 @@
 """01's rules and refusals in plain words."""
 
 REFUSALS = {
-    1: 'the header is not 6 bytes', 2: 'the edition is not 1', 3: 'a zero field of the header is not zero',
+    1: 'the header is not 6 bytes', 2: 'the edition is neither 1 nor 2', 3: 'a zero field of the header is not zero',
     4: "the period is under the bin's least, or over 3300 ps", 5: 'the file does not end between records', 6: "the record's step is 0",
-    7: 'the records pass the limit of 1,048,576', 8: 'the end edge is above 2^44', 17: 'a count is out of range',
+    7: 'the records pass the limit of 1,048,576', 8: 'the end edge is above 2^44', 13: 'a record has RESET 0, the second CS 0 or ODT 1',
+    14: 'a bit of the record that must be 0 is 1', 17: 'a count is out of range',
 }
+
+OF_RANK = {'1': 'first rank', '2': 'second rank'}
 
 TROUBLES = {'unopened': 'it cannot be opened', 'unread': 'it cannot be read to its end', 'empty': 'it is empty'}
 

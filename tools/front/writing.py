@@ -6,6 +6,7 @@ from files import shown
 from importing import imported
 from page import page
 from picture import picture
+from values import ranks
 from written import beside, refuse_over
 
 
@@ -20,4 +21,4 @@ def wrote(wanted, judged):
     text = (picture if wanted.mode == 'picture' else page)(found, wanted.files)
     with beside(wanted.out) as (file, _):
         file.write(text.encode())
-    return [told(found, shown(wanted.files[-1]))], found['outcome']
+    return [told(own, shown(wanted.files[-1])) for own in ranks(found)], found['outcome']
