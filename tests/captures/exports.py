@@ -1,4 +1,4 @@
-"""Recordings to captures and back, of both editions."""
+"""Recordings to captures and back, of both editions; `ranks.py` has the marks of two ranks."""
 
 import json
 import re
@@ -79,15 +79,12 @@ def edition_2_back(folder):
     ran = run(folder, '--import', 'v.rec', *PART, '--still', '--period', '1500', *pins, 'w.vcd')
     check(f'edition 2 there and back: {ran}', ran.returncode == 0 and (folder / 'v.rec').read_bytes() == WIDE)
     for what, bad, word in [
-        ('a period of 0', b'\x24' + bytes(5), b'period'), ('step 0', WIDE[:6] + bytes(3) + WIDE[9:], b'record 1: its step is 0'),
+        ('a period of 0', b'\x24' + bytes(5), b'period'), ('step 0', WIDE[:6] + bytes(3) + WIDE[9:], b"w.rec:0x6: refused 6: the record's step is 0"),
         ('bits', WIDE[:-1] + b'\1', b'must be 0'), ('ragged', WIDE[:-1], b'does not end between records'), ('edition 3', b'\x34' + WIDE[1:], b'no edition 3'),
     ]:
         (folder / 'w.rec').write_bytes(bad)
         ran = run(folder, '--export', 'w.vcd', 'w.rec')
         check(f'export of edition 2 with {what}: {ran}', ran.returncode == 2 and word in ran.stderr and ran.stderr.count(b'\n') == 1)
-    for mode in '--picture', '--page':
-        ran = run(folder, mode, 'w.out', 'v.rec')
-        check(f'{mode} of edition 2: {ran}', ran.returncode == 2 and b'refused 2' in ran.stderr and not (folder / 'w.out').exists())
 
 
 TESTS = [round_trips, edition_2, edition_2_back]
