@@ -8,6 +8,9 @@ static const uint64_t GREATEST_END = UINT64_C(1) << 44;
 
 enum { MOST_DEBT = 9, LEAST_DEBT = -8 };
 
+/* The walk over a section's records stands here three times: for edition 1 and for each rank of edition 2. */
+#define INLINE inline __attribute__((always_inline))
+
 static inline int64_t later(int64_t a, int64_t b)
 {
     return a > b ? a : b;
@@ -98,7 +101,7 @@ static int __attribute__((cold)) deadline_breaks(struct judge *j, struct record 
     return 1;
 }
 
-static inline void shut(struct judge *j, struct bank *b, int64_t start, uint32_t number)
+static INLINE void shut(struct judge *j, struct bank *b, int64_t start, uint32_t number)
 {
     b->start = start;
     b->shut_by = number;
@@ -106,7 +109,7 @@ static inline void shut(struct judge *j, struct bank *b, int64_t start, uint32_t
     b->column_from = NEVER;
 }
 
-static inline int activate(struct judge *j, struct bank *b, struct record r)
+static INLINE int activate(struct judge *j, struct bank *b, struct record r)
 {
     if (r.edge < b->act_from || r.edge < j->act_from || r.edge < j->quiet) {
         if (rules_break(j, r))
@@ -125,7 +128,7 @@ static inline int activate(struct judge *j, struct bank *b, struct record r)
     return 0;
 }
 
-static inline int column(struct judge *j, struct bank *b, struct record r)
+static INLINE int column(struct judge *j, struct bank *b, struct record r)
 {
     enum direction d = (enum direction)(RD - r.command);
     const struct kind *kind = &j->kind[2 * d + (r.a >> 12 & 1)];
@@ -151,7 +154,7 @@ static inline int column(struct judge *j, struct bank *b, struct record r)
     return 0;
 }
 
-static inline int precharge(struct judge *j, struct bank *b, struct record r)
+static INLINE int precharge(struct judge *j, struct bank *b, struct record r)
 {
     if ((r.edge < b->pre_from || r.edge < j->quiet) && rules_break(j, r))
         return 1;
@@ -193,7 +196,7 @@ static inline void hold_all(struct judge *j, int64_t edge)
 }
 
 /* Debt is 9 at debt_due, and one less for each interval before it. */
-static inline int refresh(struct judge *j, struct record r)
+static INLINE int refresh(struct judge *j, struct record r)
 {
     if ((r.edge < all_idle_from(j) || r.edge < j->quiet) && rules_break(j, r))
         return 1;
@@ -310,7 +313,7 @@ static const uint8_t COMMAND[3][32] = {
     {EIGHT(NOP), EIGHT(NOP), SEVEN_FORBIDDEN, PDX, EIGHT(PDX)},
 };
 
-static inline int breaks(struct judge *j, struct record r)
+static INLINE int breaks(struct judge *j, struct record r)
 {
     struct bank *b = &j->bank[r.ba];
     if (r.edge >= j->soonest && deadline_breaks(j, r))
@@ -333,21 +336,21 @@ static inline int breaks(struct judge *j, struct record r)
 
 /* ---- a section */
 
-static inline uint32_t step_of(const uint8_t *at)
+/* Step and levels; in edition 1 BA too. */
+static inline uint32_t first_four(const uint8_t *at)
 {
-    return (uint32_t)at[0] << 16 | (uint32_t)at[1] << 8 | at[2];
+    return (uint32_t)at[0] << 24 | (uint32_t)at[1] << 16 | (uint32_t)at[2] << 8 | at[3];
 }
 
 /* CKE, CS, RAS, CAS, WE. In edition 2 they stand as RESET, CKE, CS, CS of the second rank, ODT, RAS, CAS, WE. */
-static inline unsigned levels_of(const uint8_t *at, int wide, unsigned rank)
+static inline unsigned levels_of(uint32_t four, int wide, unsigned rank)
 {
-    unsigned four = at[3];
-    return wide ? (four >> 6 & 1) << 4 | (four >> (5 - rank) & 1) << 3 | (four & 7) : four >> 3;
+    return wide ? (four >> 6 & 1) << 4 | (four >> (5 - rank) & 1) << 3 | (four & 7) : four >> 3 & 31;
 }
 
-static inline unsigned bank_of(const uint8_t *at, int wide)
+static inline unsigned bank_of(uint32_t four, const uint8_t *at, int wide)
 {
-    return wide ? at[4] >> 5 : at[3] & 7;
+    return wide ? at[4] >> 5 : four & 7;
 }
 
 static inline unsigned address_of(const uint8_t *at, int wide)
@@ -357,8 +360,7 @@ static inline unsigned address_of(const uint8_t *at, int wide)
 
 /* Judges up to the end or to the first break, then only counts. 6 where a step is 0, 14 where a zero bit is 1, with a state
  * that is of no use. */
-static inline __attribute__((always_inline)) int take(struct judge *j, const uint8_t *at, const uint8_t *end, int wide,
-                                                      unsigned rank)
+static INLINE int take(struct judge *j, const uint8_t *at, const uint8_t *end, int wide, unsigned rank)
 {
     const size_t size = wide ? EIGHT_BYTES : SIX;
     int64_t edge = j->edge;
@@ -366,23 +368,23 @@ static inline __attribute__((always_inline)) int take(struct judge *j, const uin
     unsigned spare = 0;
     int broken = j->first.broken;
     while (at < end && !broken) {
-        uint32_t step = step_of(at);
+        uint32_t four = first_four(at);
         struct record r;
-        if (step == 0)
+        if (four >> 8 == 0)
             return 6;
         if (wide)
             spare |= (at[6] & 31u) | at[7];
-        r.command = (enum command)COMMAND[j->mode][levels_of(at, wide, rank)];
-        r.ba = bank_of(at, wide);
+        r.command = (enum command)COMMAND[j->mode][levels_of(four, wide, rank)];
+        r.ba = bank_of(four, at, wide);
         r.a = address_of(at, wide);
-        r.edge = edge += step;
+        r.edge = edge += four >> 8;
         r.number = ++number;
         at += size;
         broken = breaks(j, r);
     }
     number += (uint32_t)((size_t)(end - at) / size);
     for (; at < end; at += size) {
-        uint32_t step = step_of(at);
+        uint32_t step = first_four(at) >> 8;
         if (step == 0)
             return 6;
         if (wide)
