@@ -1,5 +1,6 @@
 //! The reference against the program for cuts: a recording in sections, empty and refused ones in between, the verdict so
-//! far and the waiting times after each, and the picture at the end. crates/sections_run/src/main.rt tells the form of a case.
+//! far and the waiting times after each, and the picture at the end; each set of an opening's and of a section's refusals at
+//! once. crates/sections_run/src/main.rt tells the form of a case.
 
 use crate::damage::{nop, Case};
 use crate::edition::{Edition, Edition::*};
@@ -73,14 +74,53 @@ fn odd_section(random: &mut Random, edition: Edition, rest: &[u8]) -> Vec<u8> {
     section
 }
 
-/// Sections up to the limit of records but for the last 64; then 65 records (7), 64, one more (7), none. The steps are long,
-/// so that the debt breaks at once and the reference has little to look back over.
+/// Headers that are refused, each set of 1, 2, 3 and 4 at once.
+fn refused_openings(edition: Edition) -> Vec<Cut> {
+    let spoilt = |set: u32| {
+        let mut header = vec![edition.number() << 4 | 4, 0x05, 0xDC, 0, 0, 0];
+        if set & 1 != 0 {
+            header.push(0);
+        }
+        if set & 2 != 0 {
+            header[0] = 0x34;
+        }
+        if set & 4 != 0 {
+            header[1] |= 0x40;
+        }
+        if set & 8 != 0 {
+            header[2] = 0xDB;
+        }
+        Cut { edition, header, sections: vec![vec![]], end: None }
+    };
+    (1..16).map(spoilt).collect()
+}
+
+/// A section for which each refusal of this set holds: 5, 7, 6, 14, where so many records are too many.
+fn refused_section(edition: Edition, set: u32, too_many: usize) -> Vec<u8> {
+    let mut section = nop(edition).repeat(if set & 2 != 0 { too_many } else { 3 });
+    if set & 4 != 0 {
+        let last = section.len() - edition.size();
+        section[last..last + 3].fill(0);
+    }
+    if set & 8 != 0 && edition == Two {
+        section[7] |= 1;
+    }
+    if set & 1 != 0 {
+        section.push(0);
+    }
+    section
+}
+
+/// Sections up to the limit of records but for the last 64; then each set of a section's refusals at once; then 64 records, one
+/// more (7), none. The steps are long, so that the debt breaks at once and the reference has little to look back over.
 fn cut_at_the_limit(edition: Edition) -> Cut {
     let longest = 65536 / edition.size();
     let full = (MOST_RECORDS - 64) / longest;
     let rest = MOST_RECORDS - 64 - full * longest;
-    let sizes = std::iter::repeat(longest).take(full).chain([rest, 65, 64, 1, 0]);
-    let sections = sizes.map(|records| nop(edition).repeat(records)).collect();
+    let sizes = std::iter::repeat(longest).take(full).chain([rest, 64, 1, 0]);
+    let mut sections: Vec<Vec<u8>> = sizes.map(|records| nop(edition).repeat(records)).collect();
+    let sets = if edition == One { 1..8 } else { 1..16 };
+    sections.splice(full + 1..full + 1, sets.map(|set| refused_section(edition, set, 65)));
     Cut { edition, header: vec![edition.number() << 4 | 4, 0x05, 0xDC, 0, 0, 0], sections, end: None }
 }
 
@@ -165,6 +205,7 @@ pub fn cuts(seed: u64, count: u64, words: &[&str]) -> Result<bool, String> {
     let made = |index| if index % 2 == 0 { case(seed, index, true) } else { wide_case(seed, index, true) };
     let mut cuts: Vec<Cut> = (0..count).map(|index| cut(&mut random, &made(index))).collect();
     cuts.extend([One, Two].map(cut_at_the_limit));
+    cuts.extend([One, Two].into_iter().flat_map(refused_openings));
     let text = printed(words, &cuts.iter().flat_map(Cut::bytes).collect::<Vec<u8>>())?;
     let mut lines = text.lines();
     for cut in &cuts {
