@@ -117,6 +117,12 @@ def tables(check, run, folder):
         for table, name in (lines[:half], 'DES'), (lines[half:], None):
             shown = [int(line.split()[0].strip('*')) for line in table[2:]]
             check(f'judge --list {words} of edition 2: {table}', shown == numbers and all(name is None or f' {name} ' in line for line in table[2:]))
+    (folder / 'r.rec').write_bytes(widened(P8)[:-1])
+    ran = run([JUDGE, '--list', '6-7', 'r.rec'], folder)
+    check(f'judge --list of edition 2, ragged: {ran}', ran.returncode == 2 and [line.split()[0] for line in ran.stdout.decode().splitlines()] == ['First', 'record', '6', 'Second', 'record', '6'])
+    (folder / 'r.rec').write_bytes(widened(P8)[:2] + bytes(4) + widened(P8)[6:])
+    ran = run([JUDGE, '--list', '6-7', 'r.rec'], folder)
+    check(f'judge --list of a header that is refused: {ran}', ran.returncode == 2 and ran.stdout == b'' and ran.stderr.startswith(b'judge: r.rec:0x0: refused 4: ') and ran.stderr.count(b'\n') == 1)
     for name, recording in ('ranks', widened(P8)), ('ranks-apart', APART):
         (folder / 'r.rec').write_bytes(recording)
         ran = run([JUDGE, '--lot', 'r.rec'], folder)

@@ -12,7 +12,7 @@ from programs import Failed, answer, built
 from records import around, table
 from report import heading, report
 from tell import complain
-from values import as_json, lines, listed, ranks, said
+from values import RANKS, as_json, lines, listed, ranks, said
 
 CLEAN, BROKEN, NONE, LOST = 0, 1, 2, 3
 STATUS = {b'clean': CLEAN, b'broken': BROKEN, b'refused': NONE}
@@ -128,11 +128,20 @@ def text_of(some):
 
 
 def listing(wanted):
-    found, lines_ = told_of(wanted.files), []
-    for own in ranks(found):
+    found, tables = told_of(wanted.files), []
+    if 'period_ps' not in found:
+        raise Unreadable(told(found, shown(wanted.files[-1])))
+    for own in seen_by(found):
         first, last = around(own) if wanted.range == (0, 0) else wanted.range
-        lines_ += [*heading(own), *table(own, listed(wanted.files, first, last, own.get('rank', '1')), wanted.files)]
-    return text_of(lines_), OUTCOME[found['outcome']]
+        tables += [*heading(own), *table(own, listed(wanted.files, first, last, own.get('rank', '1')), wanted.files)]
+    return text_of(tables), OUTCOME[found['outcome']]
+
+
+def seen_by(found):
+    """Those who see the records: each rank, also where there is no verdict."""
+    if found['outcome'] == 'none' and 'edition' in found:
+        return [{**found, 'rank': rank} for rank in RANKS]
+    return ranks(found)
 
 
 def judged(names):
