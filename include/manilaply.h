@@ -107,7 +107,8 @@ uint32_t manilaply_widen(const uint8_t *recording, size_t recording_len, uint8_t
  */
 uint32_t manilaply_narrow(const uint8_t *recording, size_t recording_len, uint8_t *out, size_t out_len);
 
-/* What a mode register's code says under the header of a recording of edition 1.
+/* What a mode register's code says under the header of a recording of edition 1; one of edition 2 is read with its first
+ * four bits set to 1.
  *
  * Writes 6 bytes to the start of out, CL, WR and CWL in clocks and any other field as its bits:
  *   number 0, MR0   A1A0, A3, CL, A8, WR, A12
