@@ -2,8 +2,9 @@
 
 use crate::edition::{step, Edition};
 
-/// More tries than this are not worth the wait.
+/// More tries than this, or with more bytes in all, are not worth the wait.
 const MOST_TRIES: usize = 4000;
+const MOST_BYTES: usize = 2_000_000_000;
 
 const HEADER: usize = 6;
 
@@ -11,16 +12,17 @@ const HEADER: usize = 6;
 /// dropped with its steps, or its steps are added to the record behind it.
 pub fn shrink(edition: Edition, recording: Vec<u8>, differs: &mut dyn FnMut(&[u8]) -> bool) -> Vec<u8> {
     let mut smallest = recording;
-    let mut tries = 0;
+    let (mut tries, mut bytes) = (0, 0);
     let mut size = (smallest.len() / edition.size() / 2).max(1);
-    while smallest.len() >= HEADER + edition.size() && tries < MOST_TRIES {
+    while smallest.len() >= HEADER + edition.size() && tries < MOST_TRIES && bytes < MOST_BYTES {
         let mut number = 0;
         let mut dropped = false;
-        while HEADER + edition.size() * (number + size) <= smallest.len() && tries < MOST_TRIES {
+        while HEADER + edition.size() * (number + size) <= smallest.len() && tries < MOST_TRIES && bytes < MOST_BYTES {
             let start = HEADER + edition.size() * number;
             let piece = start..start + edition.size() * size;
             let without = [dropped_with_steps(&smallest, &piece), dropped_without_steps(edition, &smallest, &piece)];
             tries += 2;
+            bytes += 2 * smallest.len();
             match without.into_iter().flatten().find(|left| differs(left)) {
                 Some(left) => (smallest, dropped) = (left, true),
                 None => number += size,
