@@ -16,6 +16,7 @@
 //! reference functions SEED COUNT WORDS  compares the C harness that WORDS start; `few` for COUNT's small ones only
 //! reference few SEED COUNT WORDS
 //! reference programs SEED COUNT WORDS   compares the program, a process for each recording
+//! reference movers SEED COUNT WORDS     compares the program that moves a recording
 //! reference cuts SEED COUNT WORDS       compares the program for cuts
 //!
 //! An empty recording or header is written "-", the last record's edge as an end "-". `small` and `few` leave out the
@@ -41,6 +42,7 @@ mod harness;
 mod header;
 mod intervals;
 mod long;
+mod movers;
 mod moves;
 mod moving;
 mod naps;
@@ -102,6 +104,7 @@ fn done(words: &[&str]) -> Result<bool, String> {
         ["functions", seed, count, ref words @ ..] => compare::functions(number(seed)?, number(count)?, false, words),
         ["few", seed, count, ref words @ ..] => compare::functions(number(seed)?, number(count)?, true, words),
         ["programs", seed, count, ref words @ ..] => programs::programs(number(seed)?, number(count)?, words),
+        ["movers", seed, count, ref words @ ..] => movers::movers(number(seed)?, number(count)?, words),
         ["cuts", seed, count, ref words @ ..] => cuts::cuts(number(seed)?, number(count)?, words),
         _ => Err("main.rs tells what can be asked".into()),
     }
