@@ -53,6 +53,18 @@ static void count(int good, const char *table, unsigned long row, uint32_t wante
     say(wanted == got ? ", bytes differ\n" : "\n");
 }
 
+/* ---- refusals */
+
+/* The first of a set of refusals, bit i for order[i]; 0 of none. */
+static inline uint32_t first_in(const uint32_t *order, size_t rows, unsigned set)
+{
+    size_t i;
+    for (i = 0; i < rows; i++)
+        if (set >> i & 1)
+            return order[i];
+    return 0;
+}
+
 /* ---- lent buffers */
 
 /* No buffer that is lent is longer; a test that lends longer ones says so before it includes this. */

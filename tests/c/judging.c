@@ -99,15 +99,6 @@ static void judging_by_table(void)
 static const uint32_t ORDER[] = {9, 1, 2, 3, 4, 5, 7, 6, 8};
 enum { NINE = 1, ONE = 2, TWO = 4, THREE = 8, FOUR = 16, FIVE = 32, SEVEN = 64, SIXTH = 128, EIGHT = 256, SETS = 512 };
 
-static uint32_t first_of(unsigned set)
-{
-    unsigned i;
-    for (i = 0; i < ROWS(ORDER); i++)
-        if (set >> i & 1)
-            return ORDER[i];
-    return 0;
-}
-
 /* A recording of NOPs in which just the refusals of the set hold, bit i for ORDER[i]; with 1, those that its bytes show. */
 static void refused_by(unsigned set, uint8_t *recording)
 {
@@ -128,7 +119,7 @@ static void refused_by(unsigned set, uint8_t *recording)
         recording[SIX + (records - 1) * SIX + 2] = 0;
     as_bytes(fields, clean);
     judging("refusals at once", set, recording, length, set & EIGHT ? GREATEST_END + 1 : set & SEVEN ? 2 * LIMIT : 3,
-            set & NINE ? VERDICT - 1 : VERDICT, first_of(set), clean, VERDICT);
+            set & NINE ? VERDICT - 1 : VERDICT, first_in(ORDER, ROWS(ORDER), set), clean, VERDICT);
 }
 
 /* With 7 only once each with one other: the recording is long. */

@@ -46,15 +46,6 @@ static void each_bit(void)
 static const uint32_t ORDER[] = {1, 2, 3, 4, 5, 7, 6, 14, 13, 9};
 enum { ONE = 1, TWO = 2, THREE = 4, FOUR = 8, FIVE = 16, SEVEN = 32, SIXTH = 64, FOURTEEN = 128, THIRTEEN = 256, NINE = 512, SETS = 1024 };
 
-static uint32_t first_of(unsigned set)
-{
-    unsigned i;
-    for (i = 0; i < ROWS(ORDER); i++)
-        if (set >> i & 1)
-            return ORDER[i];
-    return 0;
-}
-
 /* A recording of NOPs in which just the refusals of the set hold, bit i for ORDER[i]: 13 in the first record, 14 in the
  * second, 6 in the last. */
 static size_t spoilt(unsigned set, int wide, uint8_t *recording)
@@ -80,7 +71,7 @@ static size_t spoilt(unsigned set, int wide, uint8_t *recording)
 
 static void refused_by(unsigned set, int wide, uint8_t *recording)
 {
-    uint32_t wanted = first_of(set);
+    uint32_t wanted = first_in(ORDER, ROWS(ORDER), set);
     size_t length = spoilt(set, wide, recording);
     size_t room = wide ? SIX + 3 * SIX : SIX + 3 * EIGHT;
     if (wanted != 0)

@@ -100,15 +100,6 @@ static void room_by_the_first_bits(void)
 static const uint32_t ORDER[] = {9, 1, 3, 4, 5, 7, 6, 14, 8};
 enum { NINE = 1, SHORT = 2, THREE = 4, FOUR = 8, FIVE = 16, SEVEN = 32, SIXTH = 64, FOURTEEN = 128, EIGHTH = 256, SETS = 512 };
 
-static uint32_t first_of(unsigned set)
-{
-    unsigned i;
-    for (i = 0; i < ROWS(ORDER); i++)
-        if (set >> i & 1)
-            return ORDER[i];
-    return 0;
-}
-
 /* A recording of NOPs in which just the refusals of the set hold, bit i for ORDER[i]; 14 in a record before that of 6. */
 static void refused_by(unsigned set, uint8_t *recording)
 {
@@ -130,7 +121,7 @@ static void refused_by(unsigned set, uint8_t *recording)
     as_bytes(fields, clean);
     as_bytes(fields, clean + ONE);
     judging("refusals at once", set, recording, length, set & EIGHTH ? ~(uint64_t)0 : set & SEVEN ? 2 * LIMIT : 3,
-            set & NINE ? VERDICTS - 1 : VERDICTS, first_of(set), clean, VERDICTS);
+            set & NINE ? VERDICTS - 1 : VERDICTS, first_in(ORDER, ROWS(ORDER), set), clean, VERDICTS);
 }
 
 /* With 7 only once each with one other: the recording is long. */
