@@ -5,7 +5,10 @@ pub mod Wides
 pub mod Moving
 pub mod Returning
 pub mod Packing
+pub mod Turning
+pub mod Laying
 pub mod Loops
+pub mod Rows
 pub mod Seeing
 pub mod Splitting
 pub mod Editions

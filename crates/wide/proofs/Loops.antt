@@ -1,7 +1,7 @@
 -- The loops that move a section's records: what was moved lies in front of the lent bytes, and a turn adds a record.
 -- Assumes nothing.
 use Prim.Native.Nat.{ℕ, _+_, _-_, _*_, _/_, _%_, _≤_, _<_, min}
-use native.Mathlib.Nat.{add-zero, div-one}
+use native.Mathlib.Nat.{add-zero}
 use native.Mathlib.Omega.{arith}
 use mathlib.Core.Bool.{Bool, false, not, _||_, or-false}
 use mathlib.Core.List.{List, [], _∷_, _++_, map, append-nil}
@@ -19,7 +19,7 @@ use Rattle.wide.specs.Wide.{fieldsOf, wideAt, wides, rankOf, hasSpare}
 use Rattle.wide.specs.Moved.{packed, bytes6, packedWide, bytes8, widened, widen, narrow}
 use Rattle.wide.specs.Contracts.{Narrowed, Widened}
 use Rattle.wide.proofs.Wides.{piece-at, wides-append, spare-of}
-use Rattle.wide.proofs.Moving.{six, eight, narrow-append, length-narrow, widen-append, length-widen}
+use Rattle.wide.proofs.Moving.{eight, narrow-append, length-narrow, widen-append, length-widen}
 
 -- ── Lent bytes ──────────────────────────────────────────────────────────────────────────────
 
@@ -64,9 +64,29 @@ one-wide : (bs : List ℕ) (at : ℕ) → at + 8 ≤ length bs → wides (take 8
 one-wide bs at h =
     ap (map (λ xs. wideAt xs 0)) (one-piece 8 (omega arith) (drop at bs) (omega (arith, length-drop at bs)) refl) ∙ ap (λ w. w ∷ []) (piece-at bs at)
 
-zero-of : (w : ℕ) → fieldsOf w .zero ≡ w % 8192
-unfolding fieldsOf
-zero-of w = rw div-one
+pub one-narrow : (second : Bool) (bs : List ℕ) (at : ℕ) → at + 8 ≤ length bs → narrow second (take 8 (drop at bs)) ≡ bytes6 (packed (rankOf second (wideAt bs at)))
+one-narrow second bs at h = ap (spread (λ w. bytes6 (packed (rankOf second w)))) (one-wide bs at h) ∙ append-nil _
+
+pub one-spare : (bs : List ℕ) (at : ℕ) → at + 8 ≤ length bs → hasSpare (wides (take 8 (drop at bs))) ≡ not (eqb (wideAt bs at .zero) 0)
+one-spare bs at h = ap hasSpare (one-wide bs at h) ∙ or-false _
+
+-- the first i records, and k more
+module _ (bs : List ℕ) (i k : ℕ) (there : 8 * i + 8 * k ≤ length bs) where
+  length-taken : length (take (8 * i) bs) ≡ 8 * i
+  length-taken = length-take-le (8 * i) bs (omega arith)
+
+  more-taken : take (8 * (i + k)) bs ≡ take (8 * i) bs ++ take (8 * k) (drop (8 * i) bs)
+  more-taken = let e : 8 * (i + k) ≡ 8 * i + 8 * k = omega arith in ap (λ (m : ℕ). take m bs) e ∙ take-add (8 * i) (8 * k) bs
+
+  pub more-narrow : (second : Bool) → narrow second (take (8 * (i + k)) bs) ≡ narrow second (take (8 * i) bs) ++ narrow second (take (8 * k) (drop (8 * i) bs))
+  more-narrow second =
+      ap (narrow second) more-taken ∙ narrow-append second (take (8 * i) bs) (take (8 * k) (drop (8 * i) bs)) (omega (arith, length-taken))
+
+  pub more-spare : hasSpare (wides (take (8 * (i + k)) bs)) ≡ hasSpare (wides (take (8 * i) bs)) || hasSpare (wides (take (8 * k) (drop (8 * i) bs)))
+  more-spare =
+      ap (λ xs. hasSpare (wides xs)) more-taken
+      ∙ ap hasSpare (wides-append (take (8 * i) bs) (take (8 * k) (drop (8 * i) bs)) (omega (arith, length-taken)))
+      ∙ spare-of (wides (take (8 * i) bs)) (wides (take (8 * k) (drop (8 * i) bs)))
 
 -- i records were narrowed
 pub record Narrowing (bs : List ℕ) (second : Bool) (before out : List ℕ) (spare : Bool) (i : ℕ) : Type 0 where
@@ -77,47 +97,19 @@ pub narrow-start : (bs : List ℕ) (second : Bool) (before : List ℕ) → Narro
 narrow-start bs second before = record { lies = refl; seen = refl }
 
 module _ (bs : List ℕ) (second : Bool) (before out : List ℕ) (spare : Bool) (i : ℕ) (n : Narrowing bs second before out spare i) where
-  module _ (there : 8 * i + 8 ≤ length bs) where
-    length-taken : length (take (8 * i) bs) ≡ 8 * i
-    length-taken = length-take-le (8 * i) bs (omega arith)
-
-    -- one record more
-    more-taken : take (8 * (i + 1)) bs ≡ take (8 * i) bs ++ take 8 (drop (8 * i) bs)
-    more-taken = let e : 8 * (i + 1) ≡ 8 * i + 8 = omega arith in ap (λ (m : ℕ). take m bs) e ∙ take-add (8 * i) 8 bs
-
-    more-narrow : narrow second (take (8 * (i + 1)) bs) ≡ narrow second (take (8 * i) bs) ++ bytes6 (packed (rankOf second (wideAt bs (8 * i))))
-    more-narrow =
-        ap (narrow second) more-taken ∙ narrow-append second (take (8 * i) bs) (take 8 (drop (8 * i) bs)) (omega (arith, length-taken))
-        ∙ ap (λ ws. narrow second (take (8 * i) bs) ++ spread (λ w. bytes6 (packed (rankOf second w))) ws) (one-wide bs (8 * i) there)
-        ∙ ap (λ ys. narrow second (take (8 * i) bs) ++ ys) (append-nil _)
-
-    more-spare : hasSpare (wides (take (8 * (i + 1)) bs)) ≡ hasSpare (wides (take (8 * i) bs)) || not (eqb (wideAt bs (8 * i) .zero) 0)
-    more-spare =
-        ap (λ xs. hasSpare (wides xs)) more-taken
-        ∙ ap hasSpare (wides-append (take (8 * i) bs) (take 8 (drop (8 * i) bs)) (omega (arith, length-taken)))
-        ∙ spare-of (wides (take (8 * i) bs)) (wides (take 8 (drop (8 * i) bs)))
-        ∙ ap (λ ws. hasSpare (wides (take (8 * i) bs)) || hasSpare ws) (one-wide bs (8 * i) there)
-        ∙ ap (λ b. hasSpare (wides (take (8 * i) bs)) || b) (or-false _)
-
-    -- w: the record's word, n: the narrowed one
-    module _ (w m : ℕ) (reads : fieldsOf w ≡ wideAt bs (8 * i)) (moves : m ≡ packed (rankOf second (fieldsOf w))) where
-      laid : (after : List ℕ) → after ≡ take (6 * i) out ++ bytes6 m ++ drop (6 * i + 6) out
-          → after ≡ narrow second (take (8 * (i + 1)) bs) ++ drop (6 * (i + 1)) before
-      laid after put =
-          let next : 6 * i + 6 ≡ 6 * (i + 1) = omega arith in
-          let is : m ≡ packed (rankOf second (wideAt bs (8 * i))) = moves ∙ ap (λ v. packed (rankOf second v)) reads in
-          lay-more (narrow second (take (8 * i) bs)) (bytes6 m) before out after (6 * i) 6 (omega (arith, length-narrow second (take (8 * i) bs), length-taken)) (six m) (n .lies) put
-          ∙ ap (λ (x : ℕ). (narrow second (take (8 * i) bs) ++ bytes6 x) ++ drop (6 * i + 6) before) is
-          ∙ (λ j. sym more-narrow j ++ drop (next j) before)
-
-      pub narrow-turn : (after : List ℕ) → after ≡ take (6 * i) out ++ bytes6 m ++ drop (6 * i + 6) out
-          → Narrowing bs second before after (spare || not (eqb (w % 8192) 0)) (i + 1)
-      narrow-turn after put = record {
-        lies = laid after put;
-        seen =
-            (λ j. n .seen j || not (eqb (sym (zero-of w) j) 0)) ∙ ap (λ v. hasSpare (wides (take (8 * i) bs)) || not (eqb (v .zero) 0)) reads
-            ∙ sym more-spare;
-      }
+  -- and k more, ys, put behind them
+  pub narrow-row : (k : ℕ) → 8 * i + 8 * k ≤ length bs → (ys : List ℕ) → ys ≡ narrow second (take (8 * k) (drop (8 * i) bs))
+      → (s : Bool) → s ≡ hasSpare (wides (take (8 * k) (drop (8 * i) bs)))
+      → (after : List ℕ) → after ≡ take (6 * i) out ++ ys ++ drop (6 * i + 6 * k) out → Narrowing bs second before after (spare || s) (i + k)
+  narrow-row k there ys is s sees after put = record {
+    lies = let next : 6 * i + 6 * k ≡ 6 * (i + k) = omega arith in
+        lay-more (narrow second (take (8 * i) bs)) ys before out after (6 * i) (6 * k)
+        (omega (arith, length-narrow second (take (8 * i) bs), length-taken bs i k there))
+        (omega (arith, ap length is, length-narrow second (take (8 * k) (drop (8 * i) bs)), length-take-le (8 * k) (drop (8 * i) bs) (omega (arith, length-drop (8 * i) bs))))
+        (n .lies) put
+        ∙ (λ j. (narrow second (take (8 * i) bs) ++ is j) ++ drop (next j) before) ∙ ap (λ xs. xs ++ drop (6 * (i + k)) before) (sym (more-narrow bs i k there second));
+    seen = (λ j. n .seen j || sees j) ∙ sym (more-spare bs i k there);
+  }
 
   pub narrow-length : 8 * i ≤ length bs → 6 * i ≤ length before → length out ≡ length before
   narrow-length there room =

@@ -111,7 +111,7 @@ module _ (a b c d e f : ℕ) (al : a < 256) (bl : b < 256) (cl : c < 256) (dl : 
   unfolding word48
   bytes-of = omega arith
 
-  bytes6-word : bytes6 (word48 a b c d e f) ≡ a ∷ b ∷ c ∷ d ∷ e ∷ f ∷ []
+  pub bytes6-word : bytes6 (word48 a b c d e f) ≡ a ∷ b ∷ c ∷ d ∷ e ∷ f ∷ []
   unfolding bytes6
   bytes6-word = let p = bytes-of in λ i. p .b0 i ∷ p .b1 i ∷ p .b2 i ∷ p .b3 i ∷ p .b4 i ∷ p .b5 i ∷ []
 

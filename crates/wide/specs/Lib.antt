@@ -1,6 +1,7 @@
 pub mod Spread
 pub mod Wide
 pub mod Moved
+pub mod Low
 pub mod Editions
 pub mod Seen
 pub mod Contracts

@@ -1,5 +1,6 @@
 // The record of edition 2: 02, Q-7. Records moved from one edition to the other, and what stands in the way of a move.
 mod checks;
+mod low;
 mod moved;
 mod split;
 

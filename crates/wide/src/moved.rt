@@ -1,14 +1,14 @@
-// Records moved from one edition to the other, by words: a record is read as one number, and the moved one written by its bytes.
+// Records moved from one edition to the other.
 use crate::Part;
-use crate::word_at;
+use crate::low::ROW;
+use crate::low::lay_either;
+use crate::low::look;
 ghost use mathlib.Core.Path.{_≡_};
-ghost use Prim.Native.Nat.{_+_, _≤_, _<_, min};
-ghost use mathlib.Core.Bool.{cond};
+ghost use Prim.Native.Nat.{_+_, _≤_, min};
 ghost use mathlib.Core.List.{_++_};
 ghost use lib.ListN.{length, take, drop};
 ghost use Rattle.records.specs.Record as old;
-ghost use Rattle.wide.specs.Wide.{field, fieldsOf, rankOf};
-ghost use Rattle.wide.specs.Moved.{packed, packedWide, widened, bytes6, bytes8};
+ghost use Rattle.wide.specs.Moved.{packedWide, widened, bytes8};
 ghost use Rattle.wide.specs.Contracts.{NarrowPart, NarrowRecords, WidenRecords};
 
 // Narrows the whole records from `at` on, 1,000 at most, to the front of out, as the first or the second rank sees them.
@@ -29,52 +29,21 @@ pub fn narrow_records(bytes: &[u8], second: bool, out: &mut [u8]) -> Part
     ensures { λ r. ⌜ NarrowRecords (now (bytes .entry)) second (now (out .entry)) r (now (out .exit)) ⌝ }
 {
     let count = fewer(bytes.len() / 8, out.len() / 6);
+    let mut one = [0u64; ROW];
+    let mut two = [0u64; ROW];
     let mut spare = false;
     let mut i: usize = 0;
     while i < count {
-        let w = word_at(bytes, 8 * i);
-        put6(out, 6 * i, narrowed(w, second));
-        spare = spare | (w % 8192 != 0);
-        i += 1;
+        let n = fewer(count - i, ROW);
+        let seen = look(bytes, 8 * i, n, &mut one, &mut two);
+        lay_either(&one, &two, second, n, out, 6 * i);
+        spare = spare | (seen != 0);
+        i += n;
     }
     Part {
         len: 6 * count,
         spare: spare,
     }
-}
-
-// The word of edition 1 that holds what a rank sees. RAS to A stand together in both editions.
-pub(crate) fn narrowed(w: u64, second: bool) -> u64
-    ensures { λ r. ⌜ r ≡ packed (rankOf second (fieldsOf w)) ⌝ }
-{
-    w / 1099511627776 * 16777216
-        + w / 274877906944 % 2 * 8388608
-        + select(w, second) * 4194304
-        + w / 8192 % 4194304
-}
-
-// The level of a rank's CS.
-fn select(w: u64, second: bool) -> u64
-    ensures { λ r. ⌜ r ≡ cond second (field w 27 1) (field w 26 1) ⌝ }
-    ensures { λ r. ⌜ r < 2 ⌝ }
-{
-    if second {
-        return w / 68719476736 % 2;
-    }
-    w / 137438953472 % 2
-}
-
-// Puts a record of edition 1 at a place.
-pub(crate) fn put6(out: &mut [u8], at: usize, n: u64)
-    requires { ⌜ at + 6 ≤ length (now out) ⌝ }
-    ensures { λ _. ⌜ now (out .exit) ≡ take at (now (out .entry)) ++ bytes6 n ++ drop (at + 6) (now (out .entry)) ⌝ }
-{
-    out[at] = (n / 1099511627776 % 256) as u8;
-    out[at + 1] = (n / 4294967296 % 256) as u8;
-    out[at + 2] = (n / 16777216 % 256) as u8;
-    out[at + 3] = (n / 65536 % 256) as u8;
-    out[at + 4] = (n / 256 % 256) as u8;
-    out[at + 5] = (n % 256) as u8;
 }
 
 // Widens as many whole records as out has room for to its front, and answers how many bytes they take.

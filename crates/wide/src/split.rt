@@ -1,9 +1,9 @@
 // The records of edition 2 narrowed for both ranks in one pass: what the ranks see differs in one bit.
 use crate::Part;
+use crate::low::ROW;
+use crate::low::lay;
+use crate::low::look;
 use crate::moved::fewer;
-use crate::moved::narrowed;
-use crate::moved::put6;
-use crate::word_at;
 ghost use mathlib.Core.Path.{_≡_};
 ghost use lib.ListN.{length, take};
 ghost use Rattle.wide.specs.Contracts.{SplitPart, Split};
@@ -26,14 +26,17 @@ fn split_records(bytes: &[u8], one: &mut [u8], two: &mut [u8]) -> Part
     ensures { λ r. ⌜ Split (take 8000 (now (bytes .entry))) (now (one .entry)) (now (two .entry)) r (now (one .exit)) (now (two .exit)) ⌝ }
 {
     let count = fewer(bytes.len() / 8, 1000);
+    let mut first = [0u64; ROW];
+    let mut second = [0u64; ROW];
     let mut spare = false;
     let mut i: usize = 0;
     while i < count {
-        let w = word_at(bytes, 8 * i);
-        put6(one, 6 * i, narrowed(w, false));
-        put6(two, 6 * i, narrowed(w, true));
-        spare = spare | (w % 8192 != 0);
-        i += 1;
+        let n = fewer(count - i, ROW);
+        let seen = look(bytes, 8 * i, n, &mut first, &mut second);
+        lay(&first, n, one, 6 * i);
+        lay(&second, n, two, 6 * i);
+        spare = spare | (seen != 0);
+        i += n;
     }
     Part {
         len: 6 * count,

@@ -1,78 +1,116 @@
--- A record a turn, for both ranks.
+-- A row of records a turn, for both ranks.
 -- Assumes nothing.
 use Prim.Native.Nat.{_+_, _-_, _*_, _≤_}
 use native.Mathlib.Omega.{arith}
 use mathlib.Core.Bool.{true, false}
-use mathlib.Core.Path.{ap}
+use mathlib.Core.Path.{_≡_}
 use lib.ListN.{length}
 use borrow.Author.Needs.{needs}
-use Rattle.wide.specs.Wide.{fieldsOf}
-use Rattle.wide.proofs.Loops.{Narrowing, narrow-start, narrow-turn, narrow-length, narrow-end}
+use Rattle.wide.proofs.Loops.{Narrowing, narrow-start, narrow-length, narrow-end}
+use Rattle.wide.proofs.Rows.{row-laid}
 use Rattle.wide.proofs.Splitting.{thousand}
 use Rattle.wide.proofs.split.split_records.Statement.{statement}
 use Rattle.wide.proofs.split.split_records.Tie as tie
 
 abbrev Inv-loop : tie.InvT-loop
-Inv-loop bytes one₀ two₀ count spare₀ i₀ one two spare i = (i ≤ count) × Narrowing bytes false one₀ one spare i × Narrowing bytes true two₀ two spare i
+Inv-loop bytes one₀ two₀ count first₀ second₀ spare₀ i₀ one two first second spare i =
+    (i ≤ count) × (length first ≡ 125) × (length second ≡ 125) × Narrowing bytes false one₀ one spare i × Narrowing bytes true two₀ two spare i
 
 abbrev μ-loop : tie.MeasureT-loop
-μ-loop bytes one₀ two₀ count spare₀ i₀ one two spare i = count - i
+μ-loop bytes one₀ two₀ count first₀ second₀ spare₀ i₀ one two first second spare i = count - i
 
 fewer-requires : tie.Need-fewer-requires Inv-loop μ-loop
 fewer-requires c κs = search needs
 
 loop-holds : tie.Need-loop-holds Inv-loop μ-loop
-loop-holds c = (omega arith, narrow-start _ _ _, narrow-start _ _ _)
+loop-holds c = (omega arith, search needs, search needs, narrow-start _ _ _, narrow-start _ _ _)
 
-mul-word-at : tie.Need-mul-word-at Inv-loop μ-loop
-mul-word-at c = omega (arith, c .before .before .fewer .ensures)
+sub-fewer : tie.Need-sub-fewer Inv-loop μ-loop
+sub-fewer c = search needs
 
-word-at-requires : tie.Need-word-at-requires Inv-loop μ-loop
-word-at-requires c κs = omega (arith, c .before .before .fewer .ensures, c .before .loop .inv .0, c .loop-test .taken)
+fewer-requires-2 : tie.Need-fewer-requires-2 Inv-loop μ-loop
+fewer-requires-2 c κs = search needs
 
-mul-put6 : tie.Need-mul-put6 Inv-loop μ-loop
-mul-put6 c = omega (arith, c .before .before .before .loop .inv .0, c .before .before .before .before .fewer .ensures)
+mul-look : tie.Need-mul-look Inv-loop μ-loop
+mul-look c = omega (arith, c .before .before .loop .inv .0, c .before .before .before .fewer .ensures)
 
-narrowed-requires : tie.Need-narrowed-requires Inv-loop μ-loop
-narrowed-requires c κs = search needs
+look-requires : tie.Need-look-requires Inv-loop μ-loop
+look-requires c κs =
+    let l = c .before .before .before .before .loop in
+    let row = c .before .before .fewer2 .ensures in
+    (omega (arith, row), (omega (arith, row, c .before .before .before .before .before .fewer .ensures, l .inv .0), (l .inv .1, l .inv .2)))
 
-put6-requires : tie.Need-put6-requires Inv-loop μ-loop
-put6-requires c κs = omega (arith, c .before .before .before .before .before .fewer .ensures, c .before .before .before .loop-test .taken, c .before .before .before .before .before .before .before .before .before .pre .0, narrow-length _ _ _ (c .before .before .before .before .loop .one) (c .before .before .before .before .loop .spare) (c .before .before .before .before .loop .i) (c .before .before .before .before .loop .inv .1) (omega (arith, c .before .before .before .before .before .fewer .ensures, c .before .before .before .before .loop .inv .0)) (omega (arith, c .before .before .before .before .before .fewer .ensures, c .before .before .before .before .loop .inv .0, c .before .before .before .before .before .before .before .before .before .pre .0)))
+mul-lay : tie.Need-mul-lay Inv-loop μ-loop
+mul-lay c = omega (arith, c .before .before .before .before .before .before .before .loop .inv .0, c .before .before .before .before .before .before .before .before .fewer .ensures)
 
-mul-put6-2 : tie.Need-mul-put6-2 Inv-loop μ-loop
-mul-put6-2 c = omega (arith, c .before .before .before .before .before .before .before .before .loop .inv .0, c .before .before .before .before .before .before .before .before .before .fewer .ensures)
+lay-requires : tie.Need-lay-requires Inv-loop μ-loop
+lay-requires c κs =
+    let l = c .before .before .before .before .before .before .before .loop in
+    let few = c .before .before .before .before .before .before .before .before .fewer .ensures in
+    let row = c .before .before .before .before .before .fewer2 .ensures in
+    let p = c .before .before .before .before .before .before .before .before .before .before .before .before .pre .0 in
+    let long = narrow-length _ _ _ (l .one) (l .spare) (l .i) (l .inv .3) (omega (arith, few, l .inv .0)) (omega (arith, few, l .inv .0, p)) in
+    ((c .before .before .look .ensures .long .0, omega (arith, row)), omega (arith, row, few, l .inv .0, long, p))
 
-narrowed-requires-2 : tie.Need-narrowed-requires-2 Inv-loop μ-loop
-narrowed-requires-2 c κs = search needs
+mul-lay-2 : tie.Need-mul-lay-2 Inv-loop μ-loop
+mul-lay-2 c = omega (arith, c .before .before .before .before .before .before .before .before .before .before .before .before .loop .inv .0, c .before .before .before .before .before .before .before .before .before .before .before .before .before .fewer .ensures)
 
-put6-requires-2 : tie.Need-put6-requires-2 Inv-loop μ-loop
-put6-requires-2 c κs = omega (arith, c .before .before .before .before .before .before .before .before .before .before .fewer .ensures, c .before .before .before .before .before .before .before .before .loop-test .taken, c .before .before .before .before .before .before .before .before .before .before .before .before .before .before .pre .1, narrow-length _ _ _ (c .before .before .before .before .before .before .before .before .before .loop .two) (c .before .before .before .before .before .before .before .before .before .loop .spare) (c .before .before .before .before .before .before .before .before .before .loop .i) (c .before .before .before .before .before .before .before .before .before .loop .inv .2) (omega (arith, c .before .before .before .before .before .before .before .before .before .before .fewer .ensures, c .before .before .before .before .before .before .before .before .before .loop .inv .0)) (omega (arith, c .before .before .before .before .before .before .before .before .before .before .fewer .ensures, c .before .before .before .before .before .before .before .before .before .loop .inv .0, c .before .before .before .before .before .before .before .before .before .before .before .before .before .before .pre .1)))
+lay-requires-2 : tie.Need-lay-requires-2 Inv-loop μ-loop
+lay-requires-2 c κs =
+    let l = c .before .before .before .before .before .before .before .before .before .before .before .before .loop in
+    let few = c .before .before .before .before .before .before .before .before .before .before .before .before .before .fewer .ensures in
+    let row = c .before .before .before .before .before .before .before .before .before .before .fewer2 .ensures in
+    let p = c .before .before .before .before .before .before .before .before .before .before .before .before .before .before .before .before .before .pre .1 in
+    let long = narrow-length _ _ _ (l .two) (l .spare) (l .i) (l .inv .4) (omega (arith, few, l .inv .0)) (omega (arith, few, l .inv .0, p)) in
+    ((c .before .before .before .before .before .before .before .look .ensures .long .1, omega (arith, row)), omega (arith, row, few, l .inv .0, long, p))
 
 add-i : tie.Need-add-i Inv-loop μ-loop
-add-i c = search needs
+add-i c = omega (arith, c .before .before .before .before .before .before .before .before .before .before .before .before .before .fewer2 .ensures, c .before .before .before .before .before .before .before .before .before .before .before .before .before .before .before .loop .inv .0, c .before .before .before .before .before .before .before .before .before .before .before .before .before .before .before .before .fewer .ensures)
 
 loop-less : tie.Need-loop-less Inv-loop μ-loop
-loop-less c = omega (arith, c .before .before .before .before .before .before .before .before .before .before .before .loop-test .taken)
+loop-less c = omega (arith, c .before .before .before .before .before .before .before .before .before .before .before .before .before .fewer2 .ensures, c .before .before .before .before .before .before .before .before .before .before .before .before .before .before .loop-test .taken)
 
 loop-again : tie.Need-loop-again Inv-loop μ-loop
 loop-again c =
-    let there : 8 * c .before .before .before .before .before .before .before .before .before .before .before .before .loop .i + 8 ≤ length (c .before .before .before .before .before .before .before .before .before .before .before .before .before .before .before .before .before .args .bytes .now) = omega (arith, c .before .before .before .before .before .before .before .before .before .before .before .before .before .fewer .ensures, c .before .before .before .before .before .before .before .before .before .before .before .loop-test .taken) in (
-      omega (arith, c .before .before .before .before .before .before .before .before .before .before .before .loop-test .taken),
-      narrow-turn _ _ _ (c .before .before .before .before .before .before .before .before .before .before .before .before .loop .one) (c .before .before .before .before .before .before .before .before .before .before .before .before .loop .spare) (c .before .before .before .before .before .before .before .before .before .before .before .before .loop .i) (c .before .before .before .before .before .before .before .before .before .before .before .before .loop .inv .1) there (c .before .before .before .before .before .before .before .before .before .before .word-at .result) (c .before .before .before .before .before .before .before .before .narrowed .result) (ap fieldsOf (c .before .before .before .before .before .before .before .before .before .before .word-at .ensures)) (c .before .before .before .before .before .before .before .before .narrowed .ensures) _ (c .before .before .before .before .before .before .before .put6 .ensures),
-      narrow-turn _ _ _ (c .before .before .before .before .before .before .before .before .before .before .before .before .loop .two) (c .before .before .before .before .before .before .before .before .before .before .before .before .loop .spare) (c .before .before .before .before .before .before .before .before .before .before .before .before .loop .i) (c .before .before .before .before .before .before .before .before .before .before .before .before .loop .inv .2) there (c .before .before .before .before .before .before .before .before .before .before .word-at .result) (c .before .before .before .narrowed2 .result) (ap fieldsOf (c .before .before .before .before .before .before .before .before .before .before .word-at .ensures)) (c .before .before .before .narrowed2 .ensures) _ (c .before .before .put62 .ensures),
+    let l = c .before .before .before .before .before .before .before .before .before .before .before .before .before .before .before .loop in
+    let few = c .before .before .before .before .before .before .before .before .before .before .before .before .before .before .before .before .fewer .ensures in
+    let row = c .before .before .before .before .before .before .before .before .before .before .before .before .before .fewer2 .ensures in
+    let seen = c .before .before .before .before .before .before .before .before .before .before .look .ensures in
+    let there : 8 * l .i + 8 * c .before .before .before .before .before .before .before .before .before .before .before .before .before .fewer2 .result ≤ length (c .before .before .before .before .before .before .before .before .before .before .before .before .before .before .before .before .before .before .before .before .args .bytes .now) = omega (arith, row, few, l .inv .0) in (
+      omega (arith, row, c .before .before .before .before .before .before .before .before .before .before .before .before .before .before .loop-test .taken),
+      seen .long .0,
+      seen .long .1,
+      row-laid (l .inv .3) seen there _ (omega (arith, seen .long .0, row)) (seen .first) (c .before .before .before .before .before .before .before .lay .ensures),
+      row-laid (l .inv .4) seen there _ (omega (arith, seen .long .1, row)) (seen .second) (c .before .before .lay2 .ensures),
     )
 
-mul-t8 : tie.Need-mul-t8 Inv-loop μ-loop
-mul-t8 c = omega (arith, c .before .before .fewer .ensures)
+mul-t11 : tie.Need-mul-t11 Inv-loop μ-loop
+mul-t11 c = omega (arith, c .before .before .fewer .ensures)
 
 same-length : tie.Need-same-length Inv-loop μ-loop
-same-length c = narrow-length _ _ _ (c .before .loop .one) (c .before .loop .spare) (c .before .loop .i) (c .before .loop .inv .1) (omega (arith, c .before .before .fewer .ensures, c .before .loop .inv .0)) (omega (arith, c .before .before .fewer .ensures, c .before .loop .inv .0, c .before .before .before .before .before .before .pre .0))
+same-length c =
+    let l = c .before .loop in
+    let few = c .before .before .fewer .ensures in
+    let p = c .before .before .before .before .before .before .pre in
+    narrow-length _ _ _ (l .one) (l .spare) (l .i) (l .inv .3) (omega (arith, few, l .inv .0)) (omega (arith, few, l .inv .0, p .0))
 
 same-length-2 : tie.Need-same-length-2 Inv-loop μ-loop
-same-length-2 c = narrow-length _ _ _ (c .before .loop .two) (c .before .loop .spare) (c .before .loop .i) (c .before .loop .inv .2) (omega (arith, c .before .before .fewer .ensures, c .before .loop .inv .0)) (omega (arith, c .before .before .fewer .ensures, c .before .loop .inv .0, c .before .before .before .before .before .before .pre .1))
+same-length-2 c =
+    let l = c .before .loop in
+    let few = c .before .before .fewer .ensures in
+    let p = c .before .before .before .before .before .before .pre in
+    narrow-length _ _ _ (l .two) (l .spare) (l .i) (l .inv .4) (omega (arith, few, l .inv .0)) (omega (arith, few, l .inv .0, p .1))
 
 returns : tie.Need-returns Inv-loop μ-loop
-returns c = record { first = thousand _ false _ _ _ (c .before .before .before .before .before .before .pre .0) (narrow-end _ _ _ (c .before .loop .one) (c .before .loop .spare) (c .before .loop .i) (c .before .loop .inv .1) (omega (arith, c .before .before .fewer .ensures, c .before .loop .inv .0, c .loop-test .left, c .before .before .before .before .before .before .pre .0)) _ (omega (arith, c .before .loop .inv .0, c .loop-test .left))); second = thousand _ true _ _ _ (c .before .before .before .before .before .before .pre .1) (narrow-end _ _ _ (c .before .loop .two) (c .before .loop .spare) (c .before .loop .i) (c .before .loop .inv .2) (omega (arith, c .before .before .fewer .ensures, c .before .loop .inv .0, c .loop-test .left, c .before .before .before .before .before .before .pre .1)) _ (omega (arith, c .before .loop .inv .0, c .loop-test .left))) }
+returns c =
+    let l = c .before .loop in
+    let few = c .before .before .fewer .ensures in
+    let p = c .before .before .before .before .before .before .pre in
+    let done = c .loop-test .left in
+    record {
+      first = thousand _ false _ _ _ (p .0) (narrow-end _ _ _ (l .one) (l .spare) (l .i) (l .inv .3) (omega (arith, few, l .inv .0, done, p .0)) _ (omega (arith, l .inv .0, done)));
+      second = thousand _ true _ _ _ (p .1) (narrow-end _ _ _ (l .two) (l .spare) (l .i) (l .inv .4) (omega (arith, few, l .inv .0, done, p .1)) _ (omega (arith, l .inv .0, done)));
+    }
 
 pub split-records-spec : {M : Type 1} → statement M
 split-records-spec =
@@ -82,18 +120,18 @@ split-records-spec =
     μ-loop
     fewer-requires
     loop-holds
-    mul-word-at
-    word-at-requires
-    mul-put6
-    narrowed-requires
-    put6-requires
-    mul-put6-2
-    narrowed-requires-2
-    put6-requires-2
+    sub-fewer
+    fewer-requires-2
+    mul-look
+    look-requires
+    mul-lay
+    lay-requires
+    mul-lay-2
+    lay-requires-2
     add-i
     loop-less
     loop-again
-    mul-t8
+    mul-t11
     same-length
     same-length-2
     returns)

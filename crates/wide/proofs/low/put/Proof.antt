@@ -5,10 +5,10 @@ use native.Mathlib.Omega.{arith}
 use mathlib.Core.Path.{_≡_}
 use lib.ListN.{length-set}
 use lib.Seq.{sets-eq}
-use Rattle.wide.specs.Moved.{bytes6}
+use Rattle.wide.specs.Low.{low6}
 use borrow.Author.Needs.{needs}
-use Rattle.wide.proofs.moved.put6.Statement.{statement}
-use Rattle.wide.proofs.moved.put6.Tie as tie
+use Rattle.wide.proofs.low.put.Statement.{statement}
+use Rattle.wide.proofs.low.put.Tie as tie
 
 cast-out : tie.Need-cast-out
 cast-out c = search needs
@@ -65,7 +65,7 @@ same-length : tie.Need-same-length
 same-length c = search needs
 
 returns : tie.Need-returns
-unfolding bytes6
+unfolding low6
 returns c =
     let at = c .args .at in
     let e1 : at + 1 ≡ suc at = omega arith in
@@ -73,10 +73,10 @@ returns c =
     let e3 : at + 3 ≡ suc (suc (suc at)) = omega arith in
     let e4 : at + 4 ≡ suc (suc (suc (suc at))) = omega arith in
     let e5 : at + 5 ≡ suc (suc (suc (suc (suc at)))) = omega arith in
-    rw (e1, e2, e3, e4, e5) (sets-eq (bytes6 (c .args .n)) (c .args .out .now) at (c .pre))
+    rw (e1, e2, e3, e4, e5) (sets-eq (low6 (c .args .n)) (c .args .out .now) at (c .pre))
 
-pub put6-spec : {M : Type 1} → statement M
-put6-spec =
+pub put-spec : {M : Type 1} → statement M
+put-spec =
     tie.close
     (tie.spec
     cast-out
