@@ -7,6 +7,7 @@ pub mod Returning
 pub mod Packing
 pub mod Loops
 pub mod Seeing
+pub mod Stepping
 pub mod Splitting
 pub mod Editions
 pub mod Answers

@@ -3,4 +3,5 @@ pub mod Wide
 pub mod Moved
 pub mod Editions
 pub mod Seen
+pub mod Steps
 pub mod Contracts
