@@ -19,7 +19,7 @@ use Rattle.edges.specs.Folding.{foldedFrom, Counting, Counts}
 use Rattle.edges.proofs.Folding.{along-none, along-also, along-one}
 
 -- a broken rank counts
-counts-step : (C : Chip) (n : Rank) (r : Record) → (n .first .outcome ≡ 0 → ⊥) → stepOf C n r ≡ stoppedOf n r (n .first)
+pub counts-step : (C : Chip) (n : Rank) (r : Record) → (n .first .outcome ≡ 0 → ⊥) → stepOf C n r ≡ stoppedOf n r (n .first)
 unfolding stepOf
 counts-step C n r broken = rw (ne-eqb (n .first .outcome) 0 broken)
 

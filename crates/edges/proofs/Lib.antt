@@ -23,5 +23,6 @@ pub mod Lane
 pub mod Reaching
 pub mod Stamps
 pub mod Counts
+pub mod Stopped
 pub mod Clearing
 pub mod Exits

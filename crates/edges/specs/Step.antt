@@ -1,6 +1,6 @@
 -- A record's effect on the rank, and the verdict so far.
 -- Assumes nothing.
-use Prim.Native.Nat.{_+_}
+use Prim.Native.Nat.{ℕ, _+_}
 use mathlib.Core.Bool.{cond}
 use mathlib.Core.List.{List, [], _∷_}
 use Rattle.answers.specs.declared.Verdict.{Verdict}
@@ -45,6 +45,21 @@ stoppedOf s r v =
       edge = s .edge + r .step;
       count = s .count + 1;
       first = v;
+      level = s .level;
+      debt = s .debt;
+      banks = s .banks;
+      waits = s .waits;
+      acts = s .acts;
+      device = s .device;
+    }
+
+-- so many edges and records later, with nothing else altered
+unfoldable pub laterOf : Rank → (steps records : ℕ) → Rank
+laterOf s steps records =
+    record {
+      edge = s .edge + steps;
+      count = s .count + records;
+      first = s .first;
       level = s .level;
       debt = s .debt;
       banks = s .banks;

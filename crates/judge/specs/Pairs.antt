@@ -1,4 +1,4 @@
--- Both ranks in a section of edition 2, whose records are narrowed and taken 1,000 at a time.
+-- Both ranks in a section of edition 2, whose records are narrowed and taken 1,000 at a time, or only counted.
 -- Assumes nothing.
 use Prim.Native.Nat.{ℕ, _+_, _/_, _%_, _≤_}
 use mathlib.Core.Bool.{Bool, true, false, _||_}
@@ -8,10 +8,11 @@ use lib.ListN.{length}
 use Rattle.records.specs.Record.{records, hasZero}
 use Rattle.wide.specs.Wide.{wides, hasSpare}
 use Rattle.wide.specs.Moved.{narrow}
+use Rattle.wide.specs.Steps.{stepsSeen}
 use Rattle.chip.specs.declared.Chip.{Chip}
 use Rattle.running.specs.Ranges.{limit, Small}
 use Rattle.edges.specs.declared.Rank.{Rank}
-use Rattle.edges.specs.Step.{foldOf}
+use Rattle.edges.specs.Step.{laterOf, foldOf}
 use Rattle.edges.specs.Ranges.{rankInRange}
 use Rattle.edges.specs.Ends.{takenOf}
 use Rattle.judge.specs.declared.State.{State}
@@ -41,6 +42,17 @@ afterOf C p bs = record {
   one = foldOf C (p .one) (records (narrow false bs));
   two = foldOf C (p .two) (records (narrow true bs));
 }
+
+-- the same of two broken ranks
+abbrev pub countedOf : Pair → (bytes : List ℕ) → Pair
+countedOf p bs =
+    let s = stepsSeen (wides bs) in
+    record {
+      zero = s .zero;
+      spare = p .spare || s .spare;
+      one = laterOf (p .one) (s .sum) (length bs / 8);
+      two = laterOf (p .two) (s .sum) (length bs / 8);
+    }
 
 -- whether a step is 0, and if none is, what the section leads to
 pub record Took (C : Chip) (p : Pair) (bytes : List ℕ) (r : Pair) : Type 0 where

@@ -1,15 +1,56 @@
-// A section of edition 2: its records narrowed for each rank, 1,000 at a time, and handed to the ranks.
+// A section of edition 2: its records narrowed for each rank, 1,000 at a time, and handed to the ranks. Where both are broken, they are only
+// counted.
 use crate::Pair;
 use chip::Chip;
 use edges::Rank;
 ghost use mathlib.Core.Path.{_≡_};
+ghost use Prim.Native.Nat.{_+_, _%_, _≤_};
+ghost use lib.ListN.{length};
+ghost use Rattle.running.specs.Ranges.{limit, lastEdge};
+ghost use Rattle.edges.specs.Step.{laterOf};
 ghost use Rattle.judge.specs.Pairs as pairs;
 
 // The bytes of 1,000 records.
 const PART: usize = 8000;
 
-// Both ranks have the same steps: where the first has met no step of 0, neither has the second.
 pub(crate) fn both(chip: Chip, start: Pair, bytes: &[u8]) -> Pair
+    requires { ⌜ pairs.Ready chip start (now bytes) ⌝ }
+    ensures { λ r. ⌜ pairs.Took chip start (now (bytes .entry)) r ⌝ }
+{
+    let one = start.one.first.outcome;
+    let two = start.two.first.outcome;
+    if (one != 0) & (two != 0) {
+        return counted(start, bytes);
+    }
+    in_parts(chip, start, bytes)
+}
+
+fn counted(start: Pair, bytes: &[u8]) -> Pair
+    requires { ⌜ length (now bytes) % 8 ≡ 0 ⌝ }
+    requires { ⌜ pairs.Fit (start .one) (now bytes) ⌝ }
+    requires { ⌜ pairs.Fit (start .two) (now bytes) ⌝ }
+    ensures { λ r. ⌜ r ≡ pairs.countedOf start (now (bytes .entry)) ⌝ }
+{
+    let steps = wide::steps_in(bytes);
+    let records = (bytes.len() / 8) as u32;
+    let one = later(start.one, steps.sum, records);
+    let two = later(start.two, steps.sum, records);
+    pair(steps.zero, start.spare | steps.spare, one, two)
+}
+
+fn later(n: Rank, steps: u64, records: u32) -> Rank
+    requires { ⌜ n .edge + steps ≤ lastEdge ⌝ }
+    requires { ⌜ n .count + records ≤ limit ⌝ }
+    ensures { λ r. ⌜ r ≡ laterOf n steps records ⌝ }
+{
+    let mut m = n;
+    m.edge = n.edge + steps;
+    m.count = n.count + records;
+    m
+}
+
+// Both ranks have the same steps: where the first has met no step of 0, neither has the second.
+fn in_parts(chip: Chip, start: Pair, bytes: &[u8]) -> Pair
     requires { ⌜ pairs.Ready chip start (now bytes) ⌝ }
     ensures { λ r. ⌜ pairs.Took chip start (now (bytes .entry)) r ⌝ }
 {

@@ -28,3 +28,8 @@ records bs = map (λ xs. recordAt xs 0) (pieces 6 bs)
 abbrev pub hasZero : List Record → Bool
 hasZero [] = false
 hasZero (r ∷ rs) = cond (eqb (r .step) 0) true (hasZero rs)
+
+-- the edges that the records take
+abbrev pub stepsOf : List Record → ℕ
+stepsOf [] = 0
+stepsOf (r ∷ rs) = r .step + stepsOf rs

@@ -12,7 +12,8 @@ use Rattle.wide.specs.declared.Seen.{Seen}
 use Rattle.wide.specs.Wide.{wides}
 use Rattle.wide.specs.Moved.{narrow, widen}
 use Rattle.wide.specs.Seen.{seenOf}
-use Rattle.wide.specs.Contracts.{Narrowed, NarrowPart, SplitPart, NarrowRecords, WidenRecords, SeenIn, StepOfZero}
+use Rattle.wide.specs.Steps.{stepsSeen}
+use Rattle.wide.specs.Contracts.{Narrowed, NarrowPart, SplitPart, NarrowRecords, WidenRecords, SeenIn, StepsIn, StepOfZero}
 
 module _ {second : Bool} {before after after′ : List ℕ} {r r′ : Part} where
   same-narrow : {part : List ℕ} → Narrowed part second before r after → Narrowed part second before r′ after′ → (r ≡ r′) × (after ≡ after′)
@@ -44,6 +45,9 @@ widen-records-unique bytes {before} {after} {after′} {r} {r′} one other =
 
 pub seen-unique : (s : Seen) (bytes : List ℕ) → Unique (SeenIn s bytes)
 seen-unique s bytes = one-answer (seenOf s (wides bytes))
+
+pub steps-unique : (bytes : List ℕ) → Unique (StepsIn bytes)
+steps-unique bytes = one-answer (stepsSeen (wides (take 8388608 bytes)))
 
 pub zero-unique : (bytes : List ℕ) → Unique (StepOfZero bytes)
 zero-unique bytes = one-answer (hasZero (records bytes))

@@ -10,6 +10,7 @@ pub mod Laying
 pub mod Loops
 pub mod Rows
 pub mod Seeing
+pub mod Stepping
 pub mod Splitting
 pub mod Editions
 pub mod Answers

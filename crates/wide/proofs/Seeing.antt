@@ -18,7 +18,7 @@ use Rattle.wide.proofs.Wides.{wide-at, no-wide}
 
 -- ── Edition 2 ───────────────────────────────────────────────────────────────────────────────
 
-either : (b x y : Bool) → x || cond b true y ≡ (x || b) || y
+pub either : (b x y : Bool) → x || cond b true y ≡ (x || b) || y
 either b true y = refl
 either true false y = refl
 either false false y = refl

@@ -11,7 +11,7 @@ use lib.ListN.{length, take, drop, length-drop, length-map}
 use lib.Seq.{getD-take, getD-drop, drop-drop}
 use Rattle.laws.proofs.Both.{neither}
 use Rattle.records.specs.Pieces.{pieces}
-use Rattle.records.specs.Record.{hasZero}
+use Rattle.records.specs.Record.{hasZero, stepsOf}
 use Rattle.records.proofs.Pieces.{length-pieces, no-piece, next-piece, pieces-append, map-append}
 use Rattle.wide.specs.declared.Wide.{Wide}
 use Rattle.wide.specs.Wide.{wideAt, wides, rankOf, hasSpare, returns, cannotReturn}
@@ -54,6 +54,12 @@ pub rank-zero : (second : Bool) (ws : List Wide) → hasZero (map (rankOf second
 unfolding rankOf
 rank-zero second [] = refl
 rank-zero second (w ∷ ws) = ap (λ b. cond (eqb (w .step) 0) true b) (rank-zero second ws)
+
+-- and the steps come to as much
+pub rank-steps : (second : Bool) (ws : List Wide) → stepsOf (map (rankOf second) ws) ≡ stepsOf (map (rankOf false) ws)
+unfolding rankOf
+rank-steps second [] = refl
+rank-steps second (w ∷ ws) = ap (λ (n : ℕ). w .step + n) (rank-steps second ws)
 
 -- ── Of two parts ────────────────────────────────────────────────────────────────────────────
 

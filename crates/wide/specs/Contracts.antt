@@ -9,9 +9,11 @@ use lib.ListN.{length, take, drop}
 use Rattle.records.specs.Record.{records, hasZero}
 use Rattle.wide.specs.declared.Part.{Part}
 use Rattle.wide.specs.declared.Seen.{Seen}
+use Rattle.wide.specs.declared.Steps.{Steps}
 use Rattle.wide.specs.Wide.{wides, hasSpare}
 use Rattle.wide.specs.Moved.{narrow, widen}
 use Rattle.wide.specs.Seen.{seenOf}
+use Rattle.wide.specs.Steps.{stepsSeen}
 
 -- so many bytes are there, which a caller that takes them must know
 abbrev pub Holds : ℕ → List ℕ → Type 0
@@ -52,6 +54,10 @@ WidenRecords bytes before r after = Widened (take (6 * (length before / 8)) byte
 -- `seen_in`
 abbrev pub SeenIn : (s : Seen) (bytes : List ℕ) (r : Seen) → Type 0
 SeenIn s bytes r = r ≡ seenOf s (wides bytes)
+
+-- `steps_in`: of 1,048,576 records at most
+abbrev pub StepsIn : (bytes : List ℕ) (r : Steps) → Type 0
+StepsIn bytes r = r ≡ stepsSeen (wides (take 8388608 bytes))
 
 -- `step_of_zero`
 abbrev pub StepOfZero : (bytes : List ℕ) (r : Bool) → Type 0

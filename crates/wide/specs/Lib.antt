@@ -4,4 +4,5 @@ pub mod Moved
 pub mod Low
 pub mod Editions
 pub mod Seen
+pub mod Steps
 pub mod Contracts

@@ -3,6 +3,7 @@ mod checks;
 mod low;
 mod moved;
 mod split;
+mod sums;
 
 pub use checks::seen_in;
 pub use checks::step_of_zero;
@@ -10,6 +11,7 @@ pub use moved::narrow_part;
 pub use moved::narrow_records;
 pub use moved::widen_records;
 pub use split::split_part;
+pub use sums::steps_in;
 ghost use mathlib.Core.Path.{_≡_};
 ghost use Prim.Native.Nat.{_+_, _*_, _≤_, _<_};
 ghost use lib.ListN.{length};
@@ -41,6 +43,13 @@ pub struct Seen {
     pub zero: bool,
     pub spare: bool,
     pub stays: bool,
+}
+
+// The sum of the records' steps, whether one was 0, and whether some record had zero bits set.
+pub struct Steps {
+    pub sum: u64,
+    pub zero: bool,
+    pub spare: bool,
 }
 
 // The eight bytes from a place on as one word.
