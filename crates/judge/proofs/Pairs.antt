@@ -23,7 +23,7 @@ use Rattle.edges.specs.Step.{foldOf}
 use Rattle.edges.specs.Ends.{takenOf}
 use Rattle.edges.proofs.Ranging.{taken-folds}
 use Rattle.judge.specs.declared.Pair.{Pair}
-use Rattle.judge.specs.Pairs.{nextOf, afterOf, Took, Fit, Ready}
+use Rattle.judge.specs.Pairs.{pairOf, afterOf, Took, Fit, Ready}
 use Rattle.judge.proofs.Folds.{fold-append, zero-of, fold-kept}
 
 -- ── Bytes as a rank sees them, in two parts ─────────────────────────────────────────────────
@@ -93,11 +93,31 @@ at-most ys = omega (arith, length-take 8000 ys)
 
 -- ── The loop ────────────────────────────────────────────────────────────────────────────────
 
+-- a pair after a part, in the bytes that each rank sees
+abbrev pub nextOf : Chip → Pair → (first second : List ℕ) → Pair
+nextOf C p first second = record {
+  zero = takenOf C (p .one) first .zero;
+  spare = p .spare;
+  one = takenOf C (p .one) first .rank;
+  two = takenOf C (p .two) second .rank;
+}
+
+-- a pair that has met no step of 0, by its other parts
+module _ {C : Chip} {p : Pair} {bytes : List ℕ} where
+  pub plain-ready : Ready C p bytes → Ready C (pairOf false (p .spare) (p .one) (p .two)) bytes
+  plain-ready r = record { small = r .small; clear = refl; eights = r .eights; first = r .first; second = r .second }
+
+  pub plain-took : {r : Pair} → Took C (pairOf false (p .spare) (p .one) (p .two)) bytes r → Took C p bytes r
+  plain-took t = record { zero = t .zero; after = t .after }
+
 module _ (C : Chip) (start : Pair) (bytes : List ℕ) where
   pub record Stage (p : Pair) (at : ℕ) : Type 0 where
     pub ready : Ready C p (drop at bytes)
     pub zero : hasZero (records (narrow false (drop at bytes))) ≡ hasZero (records (narrow false bytes))
     pub after : afterOf C p (drop at bytes) ≡ afterOf C start bytes
+
+  pub plain-stage : {p : Pair} {at : ℕ} → Stage p at → Stage (pairOf false (p .spare) (p .one) (p .two)) at
+  plain-stage s = record { ready = plain-ready (s .ready); zero = s .zero; after = s .after }
 
   pub stage-start : Ready C start bytes → Stage start 0
   stage-start r = record { ready = r; zero = refl; after = refl }
@@ -113,6 +133,10 @@ module _ (C : Chip) (start : Pair) (bytes : List ℕ) where
       or-none : (b : Bool) → b ≡ b || false
       or-none true = refl
       or-none false = refl
+
+  -- any pair tells of a step of 0
+  pub met-zero : (n m : Pair) → Took C start bytes n → n .zero ≡ true → m .zero ≡ true → Took C start bytes m
+  met-zero n m t z met = record { zero = met ∙ sym z ∙ t .zero; after = λ no. absurd (true≢false (sym met ∙ no)) }
 
   module _ (p : Pair) (at : ℕ) (s : Stage p at) where
     abbrev xs : List ℕ

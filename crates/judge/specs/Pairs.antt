@@ -14,7 +14,6 @@ use Rattle.running.specs.Ranges.{limit, Small}
 use Rattle.edges.specs.declared.Rank.{Rank}
 use Rattle.edges.specs.Step.{laterOf, foldOf}
 use Rattle.edges.specs.Ranges.{rankInRange}
-use Rattle.edges.specs.Ends.{takenOf}
 use Rattle.judge.specs.declared.State.{State}
 use Rattle.judge.specs.declared.Pair.{Pair}
 
@@ -24,15 +23,6 @@ pairOf zero spare one two = record { zero = zero; spare = spare; one = one; two 
 -- before a section
 abbrev pub begunOf : State → Pair
 begunOf s = pairOf false false (s .one) (s .two)
-
--- after a part of it, in the bytes that each rank sees
-abbrev pub nextOf : Chip → Pair → (first second : List ℕ) → Pair
-nextOf C p first second = record {
-  zero = takenOf C (p .one) first .zero;
-  spare = p .spare;
-  one = takenOf C (p .one) first .rank;
-  two = takenOf C (p .two) second .rank;
-}
 
 -- after all of its records, if no step is 0
 abbrev pub afterOf : Chip → Pair → (bytes : List ℕ) → Pair

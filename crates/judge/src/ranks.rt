@@ -56,27 +56,23 @@ fn in_parts(chip: Chip, start: Pair, bytes: &[u8]) -> Pair
 {
     let mut first = [0u8; 6000];
     let mut second = [0u8; 6000];
-    let mut p = start;
+    let mut one = start.one;
+    let mut two = start.two;
+    let mut spare = start.spare;
     let mut at: usize = 0;
     while at < bytes.len() {
         let part = wide::split_part(bytes, at, &mut first, &mut second);
-        p.spare = p.spare | part.spare;
-        p = next(chip, p, &first[..part.len], &second[..part.len]);
-        if p.zero {
-            return p;
+        spare = spare | part.spare;
+        let a = rank::take(chip, one, &first[..part.len]);
+        if a.zero {
+            return pair(true, spare, one, two);
         }
+        one = a.rank;
+        let b = rank::take(chip, two, &second[..part.len]);
+        two = b.rank;
         at += PART;
     }
-    p
-}
-
-// The pair after the records of a part, as each rank sees them.
-fn next(chip: Chip, p: Pair, first: &[u8], second: &[u8]) -> Pair
-    ensures { λ r. ⌜ r ≡ pairs.nextOf chip p (now (first .entry)) (now (second .entry)) ⌝ }
-{
-    let one = rank::take(chip, p.one, first);
-    let two = rank::take(chip, p.two, second);
-    pair(one.zero, p.spare, one.rank, two.rank)
+    pair(false, spare, one, two)
 }
 
 pub(crate) fn pair(zero: bool, spare: bool, one: Rank, two: Rank) -> Pair

@@ -3,20 +3,25 @@
 use borrow.Author.Needs.{needs}
 use Prim.Native.Nat.{_-_}
 use native.Mathlib.Omega.{arith}
-use mathlib.Core.Path.{_≡_}
+use mathlib.Core.Bool.{false, _||_}
+use mathlib.Core.Path.{_≡_, refl, sym, ap, _∙_, subst}
 use lib.ListN.{length, drop}
-use Rattle.judge.proofs.Pairs.{kept-long, at-most, Stage, stage-start, stage-end, split-is, stage-zero, stage-turn}
+use Rattle.edges.specs.declared.Folded.{Folded}
+use Rattle.judge.specs.declared.Pair.{Pair}
+use Rattle.judge.specs.Pairs.{pairOf, Took}
+use Rattle.judge.proofs.Pairs.{kept-long, at-most, plain-ready, plain-took, Stage, plain-stage, stage-start, stage-end, met-zero, split-is, stage-zero, stage-turn}
 use Rattle.judge.proofs.ranks.in_parts.Statement.{statement}
 use Rattle.judge.proofs.ranks.in_parts.Tie as tie
 
 abbrev Inv-loop : tie.InvT-loop
-Inv-loop chip bytes first₀ second₀ p₀ at₀ first second p at = (length first ≡ 6000) × (length second ≡ 6000) × Stage chip p₀ bytes p at
+Inv-loop chip bytes first₀ second₀ one₀ two₀ spare₀ at₀ first second one two spare at =
+    (length first ≡ 6000) × (length second ≡ 6000) × Stage chip (pairOf false spare₀ one₀ two₀) bytes (pairOf false spare one two) at
 
 abbrev μ-loop : tie.MeasureT-loop
-μ-loop chip bytes first₀ second₀ p₀ at₀ first second p at = length bytes - at
+μ-loop chip bytes first₀ second₀ one₀ two₀ spare₀ at₀ first second one two spare at = length bytes - at
 
 loop-holds : tie.Need-loop-holds Inv-loop μ-loop
-loop-holds c = (search needs, search needs, stage-start _ _ _ (c .before .pre))
+loop-holds c = (search needs, search needs, stage-start _ _ _ (plain-ready (c .before .before .before .pre)))
 
 split-part-requires : tie.Need-split-part-requires Inv-loop μ-loop
 split-part-requires c κs = search needs
@@ -24,41 +29,60 @@ split-part-requires c κs = search needs
 array-share-prefix-first : tie.Need-array-share-prefix-first Inv-loop μ-loop
 array-share-prefix-first c = search needs
 
-slice-aggregate-next : tie.Need-slice-aggregate-next Inv-loop μ-loop
-slice-aggregate-next c = search needs
+slice-aggregate-take : tie.Need-slice-aggregate-take Inv-loop μ-loop
+slice-aggregate-take c = search needs
+
+take-requires : tie.Need-take-requires Inv-loop μ-loop
+take-requires c κs = search needs
+
+pair-requires : tie.Need-pair-requires Inv-loop μ-loop
+pair-requires c κs = search needs
+
+returns : tie.Need-returns Inv-loop μ-loop
+returns c =
+    let l = c .before .before .before .before .before .before .before .before .before .loop in
+    let p = pairOf false (l .spare) (l .one) (l .two) in
+    let w = c .before .before .before .before .before .split-part .ensures .2 in
+    let met = ap (λ (f : Folded). f .zero) (sym (c .before .before .take .ensures)) ∙ c .before .if1 .taken in
+    plain-took (met-zero _ _ _ _ _ (stage-zero _ _ _ p (l .at) (l .inv .2) _ (split-is _ _ _ p (l .at) (l .inv .2) w _ refl) met) met (ap (λ (q : Pair). q .zero) (c .pair .ensures)))
 
 array-share-prefix-second : tie.Need-array-share-prefix-second Inv-loop μ-loop
 array-share-prefix-second c = search needs
 
-slice-aggregate-next-2 : tie.Need-slice-aggregate-next-2 Inv-loop μ-loop
-slice-aggregate-next-2 c = search needs
+slice-aggregate-take-2 : tie.Need-slice-aggregate-take-2 Inv-loop μ-loop
+slice-aggregate-take-2 c = search needs
 
-next-requires : tie.Need-next-requires Inv-loop μ-loop
-next-requires c κs = search needs
-
-returns : tie.Need-returns Inv-loop μ-loop
-returns c =
-    let l = c .before .before .before .before .before .before .before .before .before .before .loop in
-    stage-zero _ _ _ (l .p) (l .at) (l .inv .2) _ (split-is _ _ _ (l .p) (l .at) (l .inv .2) (c .before .before .before .before .before .before .split-part .ensures .2) _ (c .before .next .ensures)) (c .if1 .taken)
+take-requires-2 : tie.Need-take-requires-2 Inv-loop μ-loop
+take-requires-2 c κs = search needs
 
 add-at : tie.Need-add-at Inv-loop μ-loop
-add-at c = omega (arith, c .before .before .before .before .before .before .before .before .before .loop-test .taken, c .before .before .before .before .before .before .before .before .before .before .before .before .pre .first .room)
+add-at c = omega (arith, c .before .before .before .before .before .before .before .before .before .before .before .loop-test .taken, c .before .before .before .before .before .before .before .before .before .before .before .before .before .before .before .before .pre .first .room)
 
 loop-less : tie.Need-loop-less Inv-loop μ-loop
-loop-less c = omega (arith, c .before .before .before .before .before .before .before .before .before .loop-test .taken)
+loop-less c = omega (arith, c .before .before .before .before .before .before .before .before .before .before .before .loop-test .taken)
 
 loop-again : tie.Need-loop-again Inv-loop μ-loop
 loop-again c =
-    let w = c .before .before .before .before .before .before .split-part .ensures .2 in
-    let l = c .before .before .before .before .before .before .before .before .before .before .loop in
-    let most = (at-most (drop (c .before .before .before .before .before .before .before .before .before .before .loop .at) (c .before .before .before .before .before .before .before .before .before .before .before .before .args .bytes .now))) in (
+    let l = c .before .before .before .before .before .before .before .before .before .before .before .before .loop in
+    let p = pairOf false (l .spare) (l .one) (l .two) in
+    let w = c .before .before .before .before .before .before .before .before .split-part .ensures .2 in
+    let spare = l .spare || c .before .before .before .before .before .before .before .before .split-part .result .spare in
+    let a = c .before .before .before .before .before .take in
+    let b = c .before .take2 in
+    let most = at-most (drop (l .at) (c .before .before .before .before .before .before .before .before .before .before .before .before .before .before .before .before .args .bytes .now)) in (
       kept-long (w .first) most (l .inv .0),
       kept-long (w .second) most (l .inv .1),
-      stage-turn _ _ _ (l .p) (l .at) (l .inv .2) _ (split-is _ _ _ (l .p) (l .at) (l .inv .2) w _ (c .before .next .ensures)) (c .if1 .left),
+      plain-stage _ _ _
+          (stage-turn _ _ _ p (l .at) (l .inv .2) _ (split-is _ _ _ p (l .at) (l .inv .2) w (pairOf (a .result .zero) spare (a .result .rank) (b .result .rank)) (λ i. pairOf (a .ensures i .zero) spare (a .ensures i .rank) (b .ensures i .rank))) (c .before .before .before .before .if1 .left)),
     )
 
+pair-requires-2 : tie.Need-pair-requires-2 Inv-loop μ-loop
+pair-requires-2 c κs = search needs
+
 returns-2 : tie.Need-returns-2 Inv-loop μ-loop
-returns-2 c = stage-end _ _ _ _ _ (c .before .loop .inv .2) (c .loop-test .left)
+returns-2 c =
+    let l = c .before .before .loop in
+    plain-took (subst (Took _ _ _) (sym (c .pair2 .ensures)) (stage-end _ _ _ _ _ (l .inv .2) (c .before .loop-test .left)))
 
 pub in-parts-spec : {M : Type 1} → statement M
 in-parts-spec =
@@ -69,12 +93,15 @@ in-parts-spec =
     loop-holds
     split-part-requires
     array-share-prefix-first
-    slice-aggregate-next
-    array-share-prefix-second
-    slice-aggregate-next-2
-    next-requires
+    slice-aggregate-take
+    take-requires
+    pair-requires
     returns
+    array-share-prefix-second
+    slice-aggregate-take-2
+    take-requires-2
     add-at
     loop-less
     loop-again
+    pair-requires-2
     returns-2)
