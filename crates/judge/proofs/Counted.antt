@@ -1,15 +1,15 @@
 -- Two broken ranks in a section of edition 2: counting its records leads where it leads.
 -- Assumes nothing.
-use Prim.Native.Nat.{ℕ, _+_, _/_, _%_, _≤_}
+use Prim.Native.Nat.{ℕ, _+_, _-_, _/_, _%_, _≤_}
 use native.Mathlib.Omega.{arith}
-use mathlib.Core.Bool.{Bool, true, false, not, _&&_, _||_, true≢false}
+use mathlib.Core.Bool.{Bool, true, false, cond, not, _&&_, _||_, true≢false}
 use mathlib.Core.List.{List, map}
-use mathlib.Core.Path.{_≡_, sym, ap, _∙_}
+use mathlib.Core.Path.{_≡_, refl, sym, ap, _∙_, subst}
 use lib.Dec.{eqb}
 use lib.ListN.{length, length-map}
 use borrow.Author.Tests.{eq-eqb}
 use Rattle.laws.proofs.Both.{both}
-use Rattle.records.specs.Record.{records, hasZero}
+use Rattle.records.specs.Record.{records, hasZero, stepsOf}
 use Rattle.wide.specs.declared.Steps.{Steps}
 use Rattle.wide.specs.Wide.{wides, rankOf, hasSpare}
 use Rattle.wide.specs.Moved.{narrow}
@@ -25,7 +25,10 @@ use Rattle.edges.specs.Step.{laterOf, foldOf}
 use Rattle.edges.proofs.Ranging.{ranged}
 use Rattle.edges.proofs.Stopped.{fold-stopped}
 use Rattle.judge.specs.declared.Pair.{Pair}
-use Rattle.judge.specs.Pairs.{pairOf, countedOf, Took, Fit}
+use Rattle.judge.specs.declared.Single.{Single}
+use Rattle.judge.specs.Pairs.{pairOf, rankIn, countedOf, Took, Fit, Able, Ready, Alone}
+use Rattle.judge.proofs.Folds.{fold-on}
+use Rattle.judge.proofs.Pairs.{same-zero, first-able, second-able, took-all}
 
 rank-counted :
     (C : Chip) (second : Bool) (n : Rank) → (n .first .outcome ≡ 0 → ⊥) → (bs : List ℕ)
@@ -74,3 +77,58 @@ module _ (bs : List ℕ) (eights : length bs % 8 ≡ 0) (s : Steps) (e : StepsIn
   counted-is p f one two a b =
       (λ i. pairOf (s .zero) (p .spare || s .spare) (a i) (b i))
       ∙ ap (λ (t : Steps). pairOf (t .zero) (p .spare || t .spare) (laterOf (p .one) (t .sum) (length bs / 8)) (laterOf (p .two) (t .sum) (length bs / 8))) (steps-are (p .one) f)
+
+-- ── A broken rank beside one that is judged ─────────────────────────────────────────────────
+
+-- both ranks have the same steps
+pub any-zero : (second : Bool) (bs : List ℕ) → hasZero (records (narrow second bs)) ≡ hasZero (records (narrow false bs))
+any-zero true bs = same-zero bs
+any-zero false bs = refl
+
+pub able-in : {C : Chip} {p : Pair} {bs : List ℕ} → Ready C p bs → (second : Bool) (n : Rank) → n ≡ rankIn p second → Able C n bs
+able-in {C} {p} {bs} r second n e = subst (λ (m : Rank). Able C m bs) (sym e) (go second)
+  where
+    go : (second : Bool) → Able C (rankIn p second) bs
+    go true = second-able r
+    go false = first-able r
+
+module _ (C : Chip) (second : Bool) (m k : Rank) (bs : List ℕ) (e : k ≡ foldOf C m (records (narrow second bs))) where
+  pub gone : k .edge ≡ m .edge + stepsSeen (wides bs) .sum
+  gone =
+      ap (λ (n : Rank). n .edge) e ∙ fold-on C m (records (narrow second bs)) .0
+      ∙ ap (λ (s : ℕ). m .edge + s) (ap stepsOf (records-narrow second bs) ∙ rank-steps second (wides bs))
+
+  -- the other goes as far
+  pub beside-fits : (n : Rank) → Able C n bs → (n .edge + (k .edge - m .edge) ≤ lastEdge) × (n .count + length bs / 8 ≤ limit)
+  beside-fits n a = (omega (arith, ranged n (a .fit .range) .edge, a .fit .room, gone, steps-small bs), a .fit .room)
+
+  pub caught-up : (other : Bool) (n : Rank) → (n .first .outcome ≡ 0 → ⊥) → (x : Rank) → x ≡ laterOf n (k .edge - m .edge) (length bs / 8)
+      → x ≡ foldOf C n (records (narrow other bs))
+  caught-up other n broken x is =
+      let sum : k .edge - m .edge ≡ stepsSeen (wides bs) .sum = omega (arith, gone) in
+      is ∙ ap (λ (s : ℕ). laterOf n s (length bs / 8)) sum ∙ rank-counted C other n broken bs
+
+module _ {C : Chip} (p : Pair) {bs : List ℕ} (second : Bool) {judged other on : Rank} {r : Single} (a : Alone C second judged bs r) (none : r .zero ≡ false)
+    (is : judged ≡ rankIn p second) (was : other ≡ rankIn p (not second)) (broken : rankIn p (not second) .first .outcome ≡ 0 → ⊥)
+    (so : on ≡ laterOf other (r .rank .edge - judged .edge) (length bs / 8)) where
+  after-is : r .rank ≡ foldOf C (rankIn p second) (records (narrow second bs))
+  after-is = a .after none ∙ ap (λ (n : Rank). foldOf C n (records (narrow second bs))) is
+
+  on-is : (x : Bool) → on ≡ foldOf C (rankIn p (not second)) (records (narrow x bs))
+  on-is x =
+      caught-up C second judged (r .rank) bs (a .after none) x other (λ z. broken (ap (λ (n : Rank). n .first .outcome) (sym was) ∙ z)) on so
+      ∙ ap (λ (n : Rank). foldOf C n (records (narrow x bs))) was
+
+  pub beside-took : (q : Pair) → q ≡ pairOf false (p .spare || r .spare) (cond second on (r .rank)) (cond second (r .rank) on) → Took C p bs q
+  beside-took q e =
+      took-all e (sym (any-zero second bs) ∙ sym (a .zero) ∙ none) (a .seen none) (go second (after-is) (on-is false)) (go′ second (after-is) (on-is true))
+    where
+      go : (x : Bool) → r .rank ≡ foldOf C (rankIn p x) (records (narrow x bs)) → on ≡ foldOf C (rankIn p (not x)) (records (narrow false bs))
+          → cond x on (r .rank) ≡ foldOf C (p .one) (records (narrow false bs))
+      go true after other = other
+      go false after other = after
+
+      go′ : (x : Bool) → r .rank ≡ foldOf C (rankIn p x) (records (narrow x bs)) → on ≡ foldOf C (rankIn p (not x)) (records (narrow true bs))
+          → cond x (r .rank) on ≡ foldOf C (p .two) (records (narrow true bs))
+      go′ true after other = after
+      go′ false after other = other

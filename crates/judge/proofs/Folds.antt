@@ -6,14 +6,14 @@ use mathlib.Core.Bool.{Bool, true, false, cond, _||_}
 use mathlib.Core.List.{List, [], _∷_, _++_, map}
 use mathlib.Core.Path.{_≡_, refl}
 use lib.Dec.{eqb}
-use lib.ListN.{length}
+use lib.ListN.{length, length-map}
 use Rattle.records.specs.declared.Record.{Record}
 use Rattle.records.specs.Pieces.{pieces}
-use Rattle.records.specs.Record.{recordAt, records, hasZero}
+use Rattle.records.specs.Record.{recordAt, records, hasZero, stepsOf}
 use Rattle.records.proofs.Records.{length-records, step-at}
 use Rattle.wide.specs.declared.Wide.{Wide}
 use Rattle.wide.specs.Wide.{rankOf}
-use Rattle.wide.proofs.Wides.{rank-step}
+use Rattle.wide.proofs.Wides.{rank-steps}
 use Rattle.chip.specs.declared.Chip.{Chip}
 use Rattle.running.specs.Ranges.{limit, Small}
 use Rattle.running.specs.Said.{isClean}
@@ -65,7 +65,7 @@ module _ (C : Chip) (small : Small C) where
       let w = ranged-on (records bs) n (rank.ranged n range) (omega arith) (short bs) in
       (rank.in-range (foldOf C n (records bs)) (w .0), omega (arith, w .1))
 
--- ── Both ranks count the same records ───────────────────────────────────────────────────────
+-- ── Broken or not, a rank goes on by each record's step ─────────────────────────────────────
 
 step-on : (C : Chip) (n : Rank) (r : Record) → (stepOf C n r .edge ≡ n .edge + r .step) × (stepOf C n r .count ≡ n .count + 1)
 unfolding stepOf movedOf stoppedOf
@@ -78,14 +78,19 @@ step-on C n r = go (isClean (n .first)) (isClean (saysOf C n r))
     go true false = (refl, refl)
     go false y = (refl, refl)
 
+pub fold-on : (C : Chip) (n : Rank) (rs : List Record) → (foldOf C n rs .edge ≡ n .edge + stepsOf rs) × (foldOf C n rs .count ≡ n .count + length rs)
+fold-on C n [] = (omega arith, omega arith)
+fold-on C n (r ∷ rs) =
+    let k = step-on C n r in
+    let w = fold-on C (stepOf C n r) rs in
+    (omega (arith, k .0, w .0), omega (arith, k .1, w .1))
+
 -- as the first and as the second rank see them
 pub level-on :
     (C : Chip) (ws : List Wide) (n m : Rank) → n .count ≡ m .count → n .edge ≡ m .edge
     → (foldOf C n (map (rankOf false) ws) .count ≡ foldOf C m (map (rankOf true) ws) .count)
     × (foldOf C n (map (rankOf false) ws) .edge ≡ foldOf C m (map (rankOf true) ws) .edge)
-level-on C [] n m c e = (c, e)
-level-on C (w ∷ ws) n m c e =
-    let a = step-on C n (rankOf false w) in
-    let b = step-on C m (rankOf true w) in
-    level-on C ws (stepOf C n (rankOf false w)) (stepOf C m (rankOf true w)) (omega (arith, a .1, b .1))
-    (omega (arith, a .0, b .0, rank-step false w, rank-step true w))
+level-on C ws n m c e =
+    let a = fold-on C n (map (rankOf false) ws) in
+    let b = fold-on C m (map (rankOf true) ws) in
+    (omega (arith, a .1, b .1, length-map ws (rankOf false), length-map ws (rankOf true), c), omega (arith, a .0, b .0, rank-steps true ws, e))

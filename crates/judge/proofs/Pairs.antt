@@ -2,7 +2,7 @@
 -- Assumes nothing.
 use Prim.Native.Nat.{ℕ, _+_, _-_, _/_, _%_, _≤_}
 use native.Mathlib.Omega.{arith}
-use mathlib.Core.Bool.{Bool, true, false, cond, _||_, or-assoc, true≢false}
+use mathlib.Core.Bool.{Bool, true, false, cond, _||_, or-assoc, or-false, true≢false}
 use mathlib.Core.List.{List, [], _++_}
 use mathlib.Core.Path.{_≡_, refl, sym, ap, _∙_}
 use lib.ListN.{length, take, drop, length-append, length-take, length-drop, take-append-drop, drop-of-length-le}
@@ -12,7 +12,7 @@ use Rattle.records.proofs.Records.{records-append}
 use Rattle.wide.specs.Wide.{wides, hasSpare}
 use Rattle.wide.specs.Moved.{narrow}
 use Rattle.wide.specs.declared.Part.{Part}
-use Rattle.wide.specs.Contracts.{Narrowed, Split}
+use Rattle.wide.specs.Contracts.{Narrowed}
 use Rattle.wide.proofs.Wides.{wides-append, rank-zero, spare-of}
 use Rattle.wide.proofs.Moving.{records-narrow, narrow-append, length-narrow}
 use Rattle.chip.specs.declared.Chip.{Chip}
@@ -23,7 +23,7 @@ use Rattle.edges.specs.Step.{foldOf}
 use Rattle.edges.specs.Ends.{takenOf}
 use Rattle.edges.proofs.Ranging.{taken-folds}
 use Rattle.judge.specs.declared.Pair.{Pair}
-use Rattle.judge.specs.Pairs.{pairOf, afterOf, Took, Fit, Ready}
+use Rattle.judge.specs.Pairs.{pairOf, Took, Fit, Able, Ready}
 use Rattle.judge.proofs.Folds.{fold-append, zero-of, fold-kept}
 
 -- ── Bytes as a rank sees them, in two parts ─────────────────────────────────────────────────
@@ -91,54 +91,35 @@ module _ {second : Bool} {xs before after : List ℕ} {part : Part} (w : Narrowe
 pub at-most : (ys : List ℕ) → length (take 8000 ys) ≤ 8000
 at-most ys = omega (arith, length-take 8000 ys)
 
--- ── The loop ────────────────────────────────────────────────────────────────────────────────
+-- ── The loop over a rank's parts ────────────────────────────────────────────────────────────
 
--- a pair after a part, in the bytes that each rank sees
-abbrev pub nextOf : Chip → Pair → (first second : List ℕ) → Pair
-nextOf C p first second = record {
-  zero = takenOf C (p .one) first .zero;
-  spare = p .spare;
-  one = takenOf C (p .one) first .rank;
-  two = takenOf C (p .two) second .rank;
-}
+module _ (C : Chip) (second : Bool) (start : Rank) (bytes : List ℕ) where
+  -- n, before the records from a place on: what is left leads where the whole section leads
+  pub record Stage (n : Rank) (spare : Bool) (at : ℕ) : Type 0 where
+    pub able : Able C n (drop at bytes)
+    pub zero : hasZero (records (narrow second (drop at bytes))) ≡ hasZero (records (narrow second bytes))
+    pub seen : spare || hasSpare (wides (drop at bytes)) ≡ hasSpare (wides bytes)
+    pub after : foldOf C n (records (narrow second (drop at bytes))) ≡ foldOf C start (records (narrow second bytes))
 
--- a pair that has met no step of 0, by its other parts
-module _ {C : Chip} {p : Pair} {bytes : List ℕ} where
-  pub plain-ready : Ready C p bytes → Ready C (pairOf false (p .spare) (p .one) (p .two)) bytes
-  plain-ready r = record { small = r .small; clear = refl; eights = r .eights; first = r .first; second = r .second }
+  pub stage-start : Able C start bytes → Stage start false 0
+  stage-start a = record { able = a; zero = refl; seen = refl; after = refl }
 
-  pub plain-took : {r : Pair} → Took C (pairOf false (p .spare) (p .one) (p .two)) bytes r → Took C p bytes r
-  plain-took t = record { zero = t .zero; after = t .after }
+  -- where it ends
+  pub record Ended (n : Rank) (spare : Bool) : Type 0 where
+    pub zero : hasZero (records (narrow second bytes)) ≡ false
+    pub seen : spare ≡ hasSpare (wides bytes)
+    pub after : n ≡ foldOf C start (records (narrow second bytes))
 
-module _ (C : Chip) (start : Pair) (bytes : List ℕ) where
-  pub record Stage (p : Pair) (at : ℕ) : Type 0 where
-    pub ready : Ready C p (drop at bytes)
-    pub zero : hasZero (records (narrow false (drop at bytes))) ≡ hasZero (records (narrow false bytes))
-    pub after : afterOf C p (drop at bytes) ≡ afterOf C start bytes
-
-  pub plain-stage : {p : Pair} {at : ℕ} → Stage p at → Stage (pairOf false (p .spare) (p .one) (p .two)) at
-  plain-stage s = record { ready = plain-ready (s .ready); zero = s .zero; after = s .after }
-
-  pub stage-start : Ready C start bytes → Stage start 0
-  stage-start r = record { ready = r; zero = refl; after = refl }
-
-  pub stage-end : (p : Pair) (at : ℕ) → Stage p at → length bytes ≤ at → Took C start bytes p
-  stage-end p at s far =
+  pub stage-end : (n : Rank) (spare : Bool) (at : ℕ) → Stage n spare at → length bytes ≤ at → Ended n spare
+  stage-end n spare at s far =
       let none : drop at bytes ≡ [] = drop-of-length-le bytes far in
       record {
-        zero = s .ready .clear ∙ ap (λ bs. hasZero (records (narrow false bs))) (sym none) ∙ s .zero;
-        after = λ _. (λ i. record { zero = s .ready .clear i; spare = or-none (p .spare) i; one = p .one; two = p .two }) ∙ ap (afterOf C p) (sym none) ∙ s .after;
+        zero = sym (s .zero) ∙ ap (λ bs. hasZero (records (narrow second bs))) none;
+        seen = sym (or-false spare) ∙ ap (λ bs. spare || hasSpare (wides bs)) (sym none) ∙ s .seen;
+        after = ap (λ bs. foldOf C n (records (narrow second bs))) (sym none) ∙ s .after;
       }
-    where
-      or-none : (b : Bool) → b ≡ b || false
-      or-none true = refl
-      or-none false = refl
 
-  -- any pair tells of a step of 0
-  pub met-zero : (n m : Pair) → Took C start bytes n → n .zero ≡ true → m .zero ≡ true → Took C start bytes m
-  met-zero n m t z met = record { zero = met ∙ sym z ∙ t .zero; after = λ no. absurd (true≢false (sym met ∙ no)) }
-
-  module _ (p : Pair) (at : ℕ) (s : Stage p at) where
+  module _ (n : Rank) (spare : Bool) (at : ℕ) (s : Stage n spare at) where
     abbrev xs : List ℕ
     xs = take 8000 (drop at bytes)
 
@@ -149,7 +130,7 @@ module _ (C : Chip) (start : Pair) (bytes : List ℕ) where
     cut = sym (take-append-drop 8000 (drop at bytes)) ∙ ap (λ zs. xs ++ zs) (drop-drop 8000 at bytes)
 
     eights : length xs % 8 ≡ 0
-    eights = omega (arith, length-take 8000 (drop at bytes), s .ready .eights)
+    eights = omega (arith, length-take 8000 (drop at bytes), s .able .eights)
 
     rest : length ys ≡ length (drop at bytes) - length xs
     rest = omega (arith, length-drop (at + 8000) bytes, length-drop at bytes, length-take 8000 (drop at bytes))
@@ -160,72 +141,61 @@ module _ (C : Chip) (start : Pair) (bytes : List ℕ) where
     counts : length xs / 8 + length ys / 8 ≡ length (drop at bytes) / 8
     counts = omega (arith, rest, within, eights)
 
-    fit : (n : Rank) → Fit n (drop at bytes) → Fit n xs
-    fit n f = record { range = f .range; room = omega (arith, f .room, within) }
+    fit : Fit n xs
+    fit = record { range = s .able .fit .range; room = omega (arith, s .able .fit .room, within) }
 
-    more : hasZero (records (narrow false bytes)) ≡ hasZero (records (narrow false xs)) || hasZero (records (narrow false ys))
-    more = sym (s .zero) ∙ ap (λ bs. hasZero (records (narrow false bs))) cut ∙ zero-both false xs ys eights
+    more : hasZero (records (narrow second bytes)) ≡ hasZero (records (narrow second xs)) || hasZero (records (narrow second ys))
+    more = sym (s .zero) ∙ ap (λ bs. hasZero (records (narrow second bs))) cut ∙ zero-both second xs ys eights
 
-    -- by what the part was split into
-    pub split-is :
-        {before before′ after after′ : List ℕ} {part : Part} → Split xs before before′ part after after′ → (n : Pair)
-        → n ≡ nextOf C (record { zero = p .zero; spare = p .spare || part .spare; one = p .one; two = p .two }) (take (part .len) after) (take (part .len) after′)
-        → n ≡ nextOf C (record { zero = p .zero; spare = p .spare || hasSpare (wides xs); one = p .one; two = p .two }) (narrow false xs) (narrow true xs)
-    split-is w n e =
-        e
-        ∙ (λ i. nextOf C (record { zero = p .zero; spare = p .spare || w .first .spare i; one = p .one; two = p .two }) (front (w .first) i) (front (w .second) i))
+    -- the rank after the part
+    module _ (a : Folded) (e : a ≡ takenOf C n (narrow second xs)) where
+      pub part-met : a .zero ≡ hasZero (records (narrow second xs))
+      part-met = ap (λ (m : Folded). m .zero) e ∙ part-zero C (s .able .small) second n xs fit
 
-    -- the pair after the part, whose zero bits were looked at
-    module _ (n : Pair) (e : n ≡ nextOf C (record { zero = p .zero; spare = p .spare || hasSpare (wides xs); one = p .one; two = p .two }) (narrow false xs) (narrow true xs)) where
-      found : n .zero ≡ hasZero (records (narrow false xs))
-      found = ap (λ (q : Pair). q .zero) e ∙ part-zero C (s .ready .small) false (p .one) xs (fit (p .one) (s .ready .first))
+      pub stage-zero : a .zero ≡ true → hasZero (records (narrow second bytes)) ≡ true
+      stage-zero z = more ∙ ap (λ b. b || hasZero (records (narrow second ys))) (sym part-met ∙ z)
 
-      pub stage-zero : n .zero ≡ true → Took C start bytes n
-      stage-zero z =
-          record {
-            zero = z ∙ sym (more ∙ ap (λ b. b || hasZero (records (narrow false ys))) (sym found ∙ z));
-            after = λ no. absurd (true≢false (sym z ∙ no));
-          }
+      module _ (none : hasZero (records (narrow second xs)) ≡ false) where
+        is : a .rank ≡ foldOf C n (records (narrow second xs))
+        is = ap (λ (m : Folded). m .rank) e ∙ part-rank C (s .able .small) second n xs fit none
 
-      module _ (z : n .zero ≡ false) where
-        none : hasZero (records (narrow false xs)) ≡ false
-        none = sym found ∙ z
-
-        is : n ≡ afterOf C p xs
-        is =
-            e
-            ∙ (λ i. record {
-              zero = (sym (ap (λ (q : Pair). q .zero) e) ∙ z) i;
-              spare = p .spare || hasSpare (wides xs);
-              one = part-rank C (s .ready .small) false (p .one) xs (fit (p .one) (s .ready .first)) none i;
-              two = part-rank C (s .ready .small) true (p .two) xs (fit (p .two) (s .ready .second)) (same-zero xs ∙ none) i;
-            })
-
-        ready-on : Ready C (afterOf C p xs) ys
-        ready-on = record {
-          small = s .ready .small;
-          clear = refl;
-          eights = omega (arith, rest, within, eights, s .ready .eights);
-          first = part-fits C (s .ready .small) false (p .one) xs (fit (p .one) (s .ready .first)) ys (omega (arith, counts, s .ready .first .room));
-          second = part-fits C (s .ready .small) true (p .two) xs (fit (p .two) (s .ready .second)) ys (omega (arith, counts, s .ready .second .room));
+        able-on : Able C (foldOf C n (records (narrow second xs))) ys
+        able-on = record {
+          small = s .able .small;
+          eights = omega (arith, rest, within, eights, s .able .eights);
+          fit = part-fits C (s .able .small) second n xs fit ys (omega (arith, counts, s .able .fit .room));
         }
 
-        spares : (p .spare || hasSpare (wides xs)) || hasSpare (wides ys) ≡ p .spare || hasSpare (wides (xs ++ ys))
-        spares =
-            or-assoc (p .spare) (hasSpare (wides xs)) (hasSpare (wides ys))
-            ∙ ap (λ b. p .spare || b) (sym (ap hasSpare (wides-append xs ys eights) ∙ spare-of (wides xs) (wides ys)))
+        spares : (b : Bool) → b ≡ hasSpare (wides xs) → (spare || b) || hasSpare (wides ys) ≡ hasSpare (wides bytes)
+        spares b is =
+            or-assoc spare b (hasSpare (wides ys))
+            ∙ ap (λ c. spare || c) (ap (λ c. c || hasSpare (wides ys)) is ∙ sym (ap hasSpare (wides-append xs ys eights) ∙ spare-of (wides xs) (wides ys)))
+            ∙ ap (λ bs. spare || hasSpare (wides bs)) (sym cut) ∙ s .seen
 
-        joined : afterOf C (afterOf C p xs) ys ≡ afterOf C p (xs ++ ys)
-        joined = λ i. record {
-          zero = false;
-          spare = spares i;
-          one = sym (fold-both false xs ys eights C (p .one)) i;
-          two = sym (fold-both true xs ys eights C (p .two)) i;
-        }
-
-        pub stage-turn : Stage n (at + 8000)
-        stage-turn = rw is (record {
-          ready = ready-on;
-          zero = sym (more ∙ ap (λ b. b || hasZero (records (narrow false ys))) none);
-          after = joined ∙ ap (afterOf C p) (sym cut) ∙ s .after;
+        pub stage-turn : (b : Bool) → b ≡ hasSpare (wides xs) → Stage (a .rank) (spare || b) (at + 8000)
+        stage-turn b sees = rw is (record {
+          able = able-on;
+          zero = sym (more ∙ ap (λ c. c || hasZero (records (narrow second ys))) none);
+          seen = spares b sees;
+          after = sym (fold-both second xs ys eights C n) ∙ ap (λ bs. foldOf C n (records (narrow second bs))) (sym cut) ∙ s .after;
         })
+
+-- ── Both ranks ──────────────────────────────────────────────────────────────────────────────
+
+pub first-able : {C : Chip} {p : Pair} {bs : List ℕ} → Ready C p bs → Able C (p .one) bs
+first-able r = record { small = r .small; eights = r .eights; fit = r .first }
+
+pub second-able : {C : Chip} {p : Pair} {bs : List ℕ} → Ready C p bs → Able C (p .two) bs
+second-able r = record { small = r .small; eights = r .eights; fit = r .second }
+
+module _ {C : Chip} {p : Pair} {bs : List ℕ} {r : Pair} where
+  pub took-zero : r .zero ≡ true → hasZero (records (narrow false bs)) ≡ true → Took C p bs r
+  took-zero z met = record { zero = z ∙ sym met; after = λ no. absurd (true≢false (sym z ∙ no)) }
+
+  pub took-all : {spare : Bool} {one two : Rank} → r ≡ pairOf false (p .spare || spare) one two
+      → hasZero (records (narrow false bs)) ≡ false → spare ≡ hasSpare (wides bs)
+      → one ≡ foldOf C (p .one) (records (narrow false bs)) → two ≡ foldOf C (p .two) (records (narrow true bs)) → Took C p bs r
+  took-all is none seen one two = record {
+    zero = ap (λ (q : Pair). q .zero) is ∙ sym none;
+    after = λ _. is ∙ (λ i. record { zero = false; spare = p .spare || seen i; one = one i; two = two i });
+  }

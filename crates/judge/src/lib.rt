@@ -43,3 +43,10 @@ struct Pair {
     one: Rank,
     two: Rank,
 }
+
+// One rank in a section of edition 2, and the same.
+struct Single {
+    zero: bool,
+    spare: bool,
+    rank: Rank,
+}

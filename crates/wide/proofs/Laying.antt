@@ -9,7 +9,7 @@ use lib.ListN.{length, take, drop, set, getD, length-append, length-drop, length
 use lib.Seq.{take-suc, take-at, drop-at, drop-drop, take-set-le, drop-set-lt, length-take-le}
 use Rattle.wide.specs.Spread.{spread}
 use Rattle.wide.specs.Low.{low6, lows}
-use Rattle.wide.proofs.Spreading.{spread-append, length-spread}
+use Rattle.wide.proofs.Spreading.{spread-append}
 
 pub low-six : (n : ℕ) → length (low6 n) ≡ 6
 unfolding low6
@@ -20,9 +20,6 @@ pub lows-more : (ws : List ℕ) (i : ℕ) → i < length ws → lows (i + 1) ws 
 lows-more ws i there =
     ap (λ (n : ℕ). spread low6 (take n ws)) (add-one i) ∙ ap (spread low6) (take-suc ws i 0 there) ∙ spread-append low6 (take i ws) (getD ws i 0 ∷ [])
     ∙ ap (λ bs. lows i ws ++ bs) (append-nil (low6 (getD ws i 0)))
-
-pub length-lows : (ws : List ℕ) (n : ℕ) → n ≤ length ws → length (lows n ws) ≡ 6 * n
-length-lows ws n there = length-spread low6 6 low-six (take n ws) ∙ ap (λ (m : ℕ). 6 * m) (length-take-le n ws there)
 
 -- the six bytes that were put
 module _ (o e : List ℕ) (at n : ℕ) (room : at + 6 ≤ length o) (put : e ≡ take at o ++ low6 n ++ drop (at + 6) o) where

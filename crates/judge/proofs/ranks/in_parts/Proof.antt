@@ -1,27 +1,28 @@
--- What is left of the section leads where it leads; a part of 8,000 bytes a turn.
+-- What is left of the section leads where it leads, for both ranks; a part of 8,000 bytes a turn.
 -- Assumes nothing.
 use borrow.Author.Needs.{needs}
 use Prim.Native.Nat.{_-_}
 use native.Mathlib.Omega.{arith}
-use mathlib.Core.Bool.{false, _||_}
-use mathlib.Core.Path.{_≡_, refl, sym, ap, _∙_, subst}
-use lib.ListN.{length, drop}
-use Rattle.edges.specs.declared.Folded.{Folded}
+use mathlib.Core.Bool.{true, false}
+use mathlib.Core.Path.{_≡_, sym, ap, _∙_}
+use lib.ListN.{length, take, drop}
+use Rattle.edges.specs.Ends.{takenOf}
 use Rattle.judge.specs.declared.Pair.{Pair}
-use Rattle.judge.specs.Pairs.{pairOf, Took}
-use Rattle.judge.proofs.Pairs.{kept-long, at-most, plain-ready, plain-took, Stage, plain-stage, stage-start, stage-end, met-zero, split-is, stage-zero, stage-turn}
+use Rattle.judge.proofs.Pairs.{same-zero, front, kept-long, at-most, Stage, stage-start, stage-end, part-met, stage-zero, stage-turn, first-able, second-able, took-zero, took-all}
 use Rattle.judge.proofs.ranks.in_parts.Statement.{statement}
 use Rattle.judge.proofs.ranks.in_parts.Tie as tie
 
 abbrev Inv-loop : tie.InvT-loop
-Inv-loop chip bytes first₀ second₀ one₀ two₀ spare₀ at₀ first second one two spare at =
-    (length first ≡ 6000) × (length second ≡ 6000) × Stage chip (pairOf false spare₀ one₀ two₀) bytes (pairOf false spare one two) at
+Inv-loop chip start bytes first₀ second₀ one₀ two₀ spare₀ at₀ first second one two spare at =
+    (length first ≡ 6000) × (length second ≡ 6000) × Stage chip false one₀ bytes one spare at × Stage chip true two₀ bytes two spare at
 
 abbrev μ-loop : tie.MeasureT-loop
-μ-loop chip bytes first₀ second₀ one₀ two₀ spare₀ at₀ first second one two spare at = length bytes - at
+μ-loop chip start bytes first₀ second₀ one₀ two₀ spare₀ at₀ first second one two spare at = length bytes - at
 
 loop-holds : tie.Need-loop-holds Inv-loop μ-loop
-loop-holds c = (search needs, search needs, stage-start _ _ _ (plain-ready (c .before .before .before .pre)))
+loop-holds c =
+    let r = c .before .before .before .pre in
+    (search needs, search needs, stage-start _ _ _ _ (first-able r), stage-start _ _ _ _ (second-able r))
 
 split-part-requires : tie.Need-split-part-requires Inv-loop μ-loop
 split-part-requires c κs = search needs
@@ -41,10 +42,9 @@ pair-requires c κs = search needs
 returns : tie.Need-returns Inv-loop μ-loop
 returns c =
     let l = c .before .before .before .before .before .before .before .before .before .loop in
-    let p = pairOf false (l .spare) (l .one) (l .two) in
-    let w = c .before .before .before .before .before .split-part .ensures .2 in
-    let met = ap (λ (f : Folded). f .zero) (sym (c .before .before .take .ensures)) ∙ c .before .if1 .taken in
-    plain-took (met-zero _ _ _ _ _ (stage-zero _ _ _ p (l .at) (l .inv .2) _ (split-is _ _ _ p (l .at) (l .inv .2) w _ refl) met) met (ap (λ (q : Pair). q .zero) (c .pair .ensures)))
+    let a = c .before .before .take in
+    let e = a .ensures ∙ ap (takenOf _ (l .one)) (front (c .before .before .before .before .before .split-part .ensures .2 .first)) in
+    took-zero (ap (λ (r : Pair). r .zero) (c .pair .ensures)) (stage-zero _ _ _ _ (l .one) (l .spare) (l .at) (l .inv .2) (a .result) e (c .before .if1 .taken))
 
 array-share-prefix-second : tie.Need-array-share-prefix-second Inv-loop μ-loop
 array-share-prefix-second c = search needs
@@ -64,16 +64,17 @@ loop-less c = omega (arith, c .before .before .before .before .before .before .b
 loop-again : tie.Need-loop-again Inv-loop μ-loop
 loop-again c =
     let l = c .before .before .before .before .before .before .before .before .before .before .before .before .loop in
-    let p = pairOf false (l .spare) (l .one) (l .two) in
     let w = c .before .before .before .before .before .before .before .before .split-part .ensures .2 in
-    let spare = l .spare || c .before .before .before .before .before .before .before .before .split-part .result .spare in
     let a = c .before .before .before .before .before .take in
     let b = c .before .take2 in
+    let e = a .ensures ∙ ap (takenOf _ (l .one)) (front (w .first)) in
+    let f = b .ensures ∙ ap (takenOf _ (l .two)) (front (w .second)) in
+    let none = sym (part-met _ _ _ _ (l .one) (l .spare) (l .at) (l .inv .2) (a .result) e) ∙ c .before .before .before .before .if1 .left in
     let most = at-most (drop (l .at) (c .before .before .before .before .before .before .before .before .before .before .before .before .before .before .before .before .args .bytes .now)) in (
       kept-long (w .first) most (l .inv .0),
       kept-long (w .second) most (l .inv .1),
-      plain-stage _ _ _
-          (stage-turn _ _ _ p (l .at) (l .inv .2) _ (split-is _ _ _ p (l .at) (l .inv .2) w (pairOf (a .result .zero) spare (a .result .rank) (b .result .rank)) (λ i. pairOf (a .ensures i .zero) spare (a .ensures i .rank) (b .ensures i .rank))) (c .before .before .before .before .if1 .left)),
+      stage-turn _ _ _ _ (l .one) (l .spare) (l .at) (l .inv .2) (a .result) e none _ (w .first .spare),
+      stage-turn _ _ _ _ (l .two) (l .spare) (l .at) (l .inv .3) (b .result) f (same-zero (take 8000 (drop (l .at) (c .before .before .before .before .before .before .before .before .before .before .before .before .before .before .before .before .args .bytes .now))) ∙ none) _ (w .first .spare),
     )
 
 pair-requires-2 : tie.Need-pair-requires-2 Inv-loop μ-loop
@@ -81,8 +82,11 @@ pair-requires-2 c κs = search needs
 
 returns-2 : tie.Need-returns-2 Inv-loop μ-loop
 returns-2 c =
-    let l = c .before .before .loop in
-    plain-took (subst (Took _ _ _) (sym (c .pair2 .ensures)) (stage-end _ _ _ _ _ (l .inv .2) (c .before .loop-test .left)))
+    let l = c .before .before .before .loop in
+    let done = c .before .before .loop-test .left in
+    let one = stage-end _ _ _ _ (l .one) (l .spare) (l .at) (l .inv .2) done in
+    let two = stage-end _ _ _ _ (l .two) (l .spare) (l .at) (l .inv .3) done in
+    took-all (c .pair2 .ensures) (one .zero) (one .seen) (one .after) (two .after)
 
 pub in-parts-spec : {M : Type 1} → statement M
 in-parts-spec =
