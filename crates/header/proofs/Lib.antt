@@ -1,3 +1,4 @@
 pub mod Times
 pub mod Bounds
+pub mod Edition
 pub mod Answers

@@ -2,16 +2,17 @@
 -- Assumes nothing.
 use Prim.Native.Nat.{ℕ, _+_, _*_, _/_, _%_, _^_, _≤_, _<_}
 use native.Mathlib.Omega.{arith}
-use mathlib.Core.Bool.{Bool, true, false, cond, _&&_, _||_}
+use mathlib.Core.Bool.{cond, _&&_, _||_}
 use mathlib.Core.List.{List, [], _∷_, _++_}
-use mathlib.Core.Path.{_≡_, refl, sym, ap, _∙_}
+use mathlib.Core.Path.{_≡_, sym, ap, _∙_}
 use lib.Dec.{eqb, ltb}
 use lib.ListN.{length, take, getD}
 use lib.Seq.{getD-take, getD-drop, drop-drop, length-take-le}
-use borrow.Author.Tests.{eqb-true, eq-eqb}
+use borrow.Author.Tests.{eq-eqb}
 use Rattle.bits.specs.Bits.{word48, field}
 use Rattle.header.specs.Bins.{binOf}
 use Rattle.header.specs.Bytes.{headerRefusal, headerWord, headerOf, fieldsRefusal, edition, bin, zeroA, zeroB, period}
+use Rattle.header.proofs.Edition as header
 use Rattle.wide.specs.Spread.{Bytes}
 use Rattle.wide.proofs.Words.{all-in-turn}
 use Rattle.moves.specs.Moves.{headed, opening}
@@ -81,14 +82,6 @@ module _ (a b c d e f : ℕ) (bl : b < 256) (cl : c < 256) (dl : d < 256) (el : 
   unfolding word48
   word-headed g = omega arith
 
-asked-edition : (e w : ℕ) → fieldsRefusal e w ≡ 0 → edition w ≡ e
-unfolding fieldsRefusal
-asked-edition e w none = go (eqb (edition w) e) _ refl none
-  where
-    go : (x : Bool) (n : ℕ) → eqb (edition w) e ≡ x → cond x n 2 ≡ 0 → edition w ≡ e
-    go true n y z = eqb-true (edition w) e y
-    go false n y z = absurd (omega arith)
-
 -- ── A header that is not refused ────────────────────────────────────────────────────────────
 
 first-six : (bs : List ℕ) → 6 ≤ length bs
@@ -107,13 +100,13 @@ module _ (e : ℕ) (bs : List ℕ) (small : Bytes bs) (o : opening e bs ≡ 0) w
   header-word : headerWord (take 6 bs) ≡ low bs + getD bs 0 0 / 16 * 17592186044416
   unfolding headerWord
   header-word =
-      rw (getD-take 6 bs 0 0 (omega arith), getD-take 6 bs 1 0 (omega arith), getD-take 6 bs 2 0 (omega arith), getD-take 6 bs 3 0 (omega arith), getD-take 6 bs 4 0 (omega arith), getD-take 6 bs 5 0 (omega arith))
-      (word-is (getD bs 0 0) (getD bs 1 0) (getD bs 2 0) (getD bs 3 0) (getD bs 4 0) (getD bs 5 0) (small 1) (small 2) (small 3) (small 4) (small 5))
+      header.word-front bs
+      ∙ word-is (getD bs 0 0) (getD bs 1 0) (getD bs 2 0) (getD bs 3 0) (getD bs 4 0) (getD bs 5 0) (small 1) (small 2) (small 3) (small 4) (small 5)
 
   pub first-bits : getD bs 0 0 / 16 ≡ e
   first-bits =
-      sym (edition-is (low bs) (getD bs 0 0 / 16) low-small (omega (arith, small 0))) ∙ ap edition (sym header-word)
-      ∙ asked-edition e (headerWord (take 6 bs)) (opened e bs o .1)
+      sym (header.first-bits bs small) ∙ ap edition (sym (header.word-front bs))
+      ∙ header.asked-edition e (headerWord (take 6 bs)) (λ two. omega (arith, two, opened e bs o .1))
 
   pub headed-again : (f : ℕ) (ys : List ℕ) → headed e (headed f bs ++ ys) ≡ take 6 bs
   unfolding headed

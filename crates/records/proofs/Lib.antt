@@ -1,3 +1,4 @@
 pub mod Pieces
+pub mod Words
 pub mod Records
 pub mod Answers

@@ -6,14 +6,14 @@ use native.Mathlib.Omega.{arith}
 use mathlib.Core.List.{List, [], _∷_, _++_, map}
 use mathlib.Core.Path.{_≡_, ap, _∙_}
 use lib.ListN.{length, take, drop, length-drop, drop-of-length-le, length-map}
-use lib.Seq.{getD-take, getD-drop, drop-drop}
+use lib.Seq.{getD-drop, drop-drop}
 use Rattle.records.specs.Pieces.{pieces}
 use Rattle.records.specs.Record.{fieldsOf, recordAt, records}
 use Rattle.records.proofs.Pieces.{length-pieces, no-piece, next-piece, pieces-append, map-append}
+use Rattle.records.proofs.Words as words
 
 pub front : (bs : List ℕ) → recordAt (take 6 bs) 0 ≡ recordAt bs 0
-front bs =
-    rw (getD-take 6 bs 0 0 (omega arith), getD-take 6 bs 1 0 (omega arith), getD-take 6 bs 2 0 (omega arith), getD-take 6 bs 3 0 (omega arith), getD-take 6 bs 4 0 (omega arith), getD-take 6 bs 5 0 (omega arith))
+front bs = ap fieldsOf (words.front bs)
 
 next-record : (bs : List ℕ) → 6 ≤ length bs → records bs ≡ recordAt bs 0 ∷ records (drop 6 bs)
 next-record bs enough =

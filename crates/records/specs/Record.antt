@@ -16,11 +16,17 @@ fieldsOf w = record { step = field w 0 24; cke = flag w 24; pins = field w 25 4;
 abbrev pub recordOf : (b0 b1 b2 b3 b4 b5 : ℕ) → Record
 recordOf b0 b1 b2 b3 b4 b5 = fieldsOf (word48 b0 b1 b2 b3 b4 b5)
 
--- the record that starts at a place of the bytes
-abbrev pub recordAt : List ℕ → (at : ℕ) → Record
-recordAt bs i = recordOf (getD bs i 0) (getD bs (i + 1) 0) (getD bs (i + 2) 0) (getD bs (i + 3) 0) (getD bs (i + 4) 0) (getD bs (i + 5) 0)
+-- the word, and the record, that starts at a place of the bytes
+abbrev pub wordAt : List ℕ → (at : ℕ) → ℕ
+wordAt bs i = word48 (getD bs i 0) (getD bs (i + 1) 0) (getD bs (i + 2) 0) (getD bs (i + 3) 0) (getD bs (i + 4) 0) (getD bs (i + 5) 0)
 
--- the records of a section's bytes, six bytes each; bytes that make no whole record give none
+abbrev pub recordAt : List ℕ → (at : ℕ) → Record
+recordAt bs i = fieldsOf (wordAt bs i)
+
+-- those of a section's bytes, six bytes each; bytes that make no whole record give none
+abbrev pub words : List ℕ → List ℕ
+words bs = map (λ xs. wordAt xs 0) (pieces 6 bs)
+
 abbrev pub records : List ℕ → List Record
 records bs = map (λ xs. recordAt xs 0) (pieces 6 bs)
 

@@ -5,6 +5,7 @@ use mathlib.Core.Bool.{Bool}
 use mathlib.Core.List.{List}
 use Rattle.laws.proofs.Unique.{Unique, one-answer}
 use Rattle.records.specs.declared.Record.{Record}
+use Rattle.records.specs.Record.{words}
 use Rattle.tally.specs.declared.Tally.{Tally}
 use Rattle.tally.specs.Kinds.{kindAt}
 use Rattle.tally.specs.Tally.{start, sectionOf}
@@ -12,7 +13,7 @@ use Rattle.tally.specs.declared.Reached.{Reached}
 use Rattle.tally.specs.Walk as found
 use Rattle.tally.specs.Refused.{refusedAt}
 use Rattle.tally.specs.declared.Spot.{Spot}
-use Rattle.tally.specs.Places.{startOf, begunOf, words, passedOf, findOf}
+use Rattle.tally.specs.Places.{startOf, begunOf, passedOf, findOf}
 use Rattle.tally.specs.Contracts.{TallyStart, TallySection, KindAt, ReachedStart, ReachedNext, ReachedFound, RefusedAt, SpotStart, SpotBegun, SpotPassed, SpotFind}
 
 pub start-unique : Unique TallyStart

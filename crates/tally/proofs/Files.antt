@@ -12,7 +12,8 @@ use lib.Dec.{ltb}
 use lib.ListN.{length, getD, take}
 use lib.Seq.{take-append-le, take-append-add}
 use borrow.Author.Tests.{ltb-true, ltb-false}
-use Rattle.records.specs.Record.{fieldsOf, records, recordAt}
+use Rattle.records.specs.Record.{fieldsOf, records, recordAt, wordAt, words}
+use Rattle.records.proofs.Words.{records-words}
 use Rattle.running.specs.Ranges.{limit}
 use Rattle.rules.specs.Past.{Past, number, asleep}
 use Rattle.rules.proofs.Cutting.{number-all, reverse-append}
@@ -21,11 +22,10 @@ use Rattle.rules.proofs.Generic.{decide}
 use Rattle.tally.specs.declared.Placed.{Placed}
 use Rattle.tally.specs.declared.Sought.the-variants.{Here, Elsewhere}
 use Rattle.tally.specs.Walk.{eventOf}
-use Rattle.tally.specs.Places.{wordAt, words, skipOf, startOf, begunOf}
+use Rattle.tally.specs.Places.{skipOf, startOf, begunOf}
 use Rattle.tally.specs.Places.{bodyOf, recordsOf, holds, filesBefore, byteOf, fileOf, numbered}
 use Rattle.tally.proofs.Cuts.{Sixes, uncut-sixes}
 use Rattle.tally.proofs.Walking.{keeps}
-use Rattle.tally.proofs.Words.{records-words}
 use Rattle.tally.proofs.Placing.{Reachable, reachable-all, spotOf, foundAt, find-at, pass-is, find-none}
 use Rattle.tally.specs.Search.{first, passIn, findIn, findAll, Cut, CutAs}
 use Rattle.laws.specs.Cuts.{uncut}

@@ -8,13 +8,13 @@ use mathlib.Core.Path.{_≡_, refl, sym, _∙_}
 use lib.Dec.{eqb}
 use lib.ListN.{length, drop, length-drop}
 use Rattle.records.specs.declared.Record.{Record}
-use Rattle.records.specs.Record.{recordAt}
+use Rattle.records.specs.Record.{recordAt, wordAt, words}
+use Rattle.records.proofs.Words.{word-step, no-word}
 use Rattle.tally.specs.declared.Spot.{Spot}
 use Rattle.tally.specs.declared.Placed.{Placed}
 use Rattle.tally.specs.declared.Sought.the-variants.{Here}
 use Rattle.tally.specs.Walk.{wrapped}
-use Rattle.tally.specs.Places.{wordAt, words, afterOf, passedOf, placedOf, findOf}
-use Rattle.tally.proofs.Words.{word-step, no-word}
+use Rattle.tally.specs.Places.{afterOf, passedOf, placedOf, findOf}
 
 module _ {A : Type 0} (answer : Spot → List ℕ → A) (s : Spot) (bs : List ℕ) where
   -- where a loop stands: behind the bytes before at

@@ -4,7 +4,6 @@ pub mod Folds
 pub mod Nineteen
 pub mod Cuts
 pub mod Walking
-pub mod Words
 pub mod Going
 pub mod Placing
 pub mod Seeking

@@ -7,15 +7,15 @@ use mathlib.Core.Logic.{_⊎_, inl, inr}
 use mathlib.Core.Path.{_≡_, refl, sym, ap, _∙_}
 use lib.Dec.{eqb}
 use lib.ListN.{length}
-use Rattle.records.specs.Record.{fieldsOf}
+use Rattle.records.specs.Record.{fieldsOf, words}
+use Rattle.records.proofs.Words.{words-append}
 use Rattle.tally.specs.declared.Spot.{Spot}
 use Rattle.tally.specs.declared.Sought.{Sought}
 use Rattle.tally.specs.declared.Sought.the-variants.{Here}
 use Rattle.tally.specs.Walk.{wrapped}
-use Rattle.tally.specs.Places.{words, afterOf, passedOf, placedOf, findOf, bodyOf}
+use Rattle.tally.specs.Places.{afterOf, passedOf, placedOf, findOf, bodyOf}
 use Rattle.tally.specs.Search.{first, passIn, findIn, Between, Cut}
 use Rattle.laws.specs.Cuts.{uncut}
-use Rattle.tally.proofs.Words.{words-append}
 
 -- ── Sections in turn ────────────────────────────────────────────────────────────────────────
 

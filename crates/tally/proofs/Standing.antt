@@ -11,10 +11,10 @@ use lib.Dec.{ltb}
 use lib.ListN.{length, getD, length-append, length-drop, length-map, List·getD-map, List·getD-append}
 use lib.Seq.{getD-append-add}
 use borrow.Author.Tests.{ltb-true, ltb-false}
-use Rattle.records.specs.Record.{fieldsOf, records, recordAt}
+use Rattle.records.specs.Record.{fieldsOf, records, recordAt, wordAt, words}
+use Rattle.records.proofs.Words.{records-words, length-words, word-drop, word-is}
 use Rattle.rules.proofs.Generic.{decide}
-use Rattle.tally.specs.Places.{wordAt, words, skipOf, bodyOf, recordsOf, holds, filesBefore, byteOf, fileOf}
-use Rattle.tally.proofs.Words.{records-words, length-words, word-drop, word-is}
+use Rattle.tally.specs.Places.{skipOf, bodyOf, recordsOf, holds, filesBefore, byteOf, fileOf}
 
 pub skip-most : (headed : Bool) → skipOf headed ≤ 6
 skip-most true = omega arith

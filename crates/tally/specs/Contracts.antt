@@ -6,6 +6,7 @@ use mathlib.Core.Bool.{Bool}
 use mathlib.Core.List.{List}
 use mathlib.Core.Path.{_≡_}
 use Rattle.records.specs.declared.Record.{Record}
+use Rattle.records.specs.Record.{words}
 use Rattle.tally.specs.declared.Tally.{Tally}
 use Rattle.tally.specs.declared.Tallied.{Tallied}
 use Rattle.tally.specs.declared.Reached.{Reached}
@@ -16,7 +17,7 @@ use Rattle.tally.specs.Kinds.{kindAt}
 use Rattle.tally.specs.Tally as tally
 use Rattle.tally.specs.Walk as walk
 use Rattle.tally.specs.Refused.{refusedAt}
-use Rattle.tally.specs.Places.{startOf, begunOf, words, passedOf, findOf}
+use Rattle.tally.specs.Places.{startOf, begunOf, passedOf, findOf}
 
 -- `Tally::start`
 abbrev pub TallyStart : (r : Tally) → Type 0

@@ -2,28 +2,16 @@
 -- Assumes nothing.
 use Prim.Native.Nat.{ℕ, _+_, _-_, _*_, _/_}
 use mathlib.Core.Bool.{Bool, true, false, cond}
-use mathlib.Core.List.{List, [], _∷_, _++_, map, reverse}
+use mathlib.Core.List.{List, [], _∷_, _++_, reverse}
 use lib.Dec.{eqb, ltb}
 use lib.ListN.{length, getD, take, drop}
-use Rattle.bits.specs.Bits.{word48}
 use Rattle.records.specs.declared.Record.{Record}
-use Rattle.records.specs.Pieces.{pieces}
-use Rattle.records.specs.Record.{fieldsOf, records, recordAt}
+use Rattle.records.specs.Record.{fieldsOf, records, wordAt, recordAt}
 use Rattle.tally.specs.declared.Spot.{Spot}
 use Rattle.tally.specs.declared.Placed.{Placed}
 use Rattle.tally.specs.declared.Sought.{Sought}
 use Rattle.tally.specs.declared.Sought.the-variants.{Here, Elsewhere}
 use Rattle.tally.specs.Walk.{start, wrapped, nextOf, foundOf, eventOf}
-
--- ── Six bytes as one number ─────────────────────────────────────────────────────────────────
-
--- those that start at a place of the bytes
-abbrev pub wordAt : List ℕ → (at : ℕ) → ℕ
-wordAt bs i = word48 (getD bs i 0) (getD bs (i + 1) 0) (getD bs (i + 2) 0) (getD bs (i + 3) 0) (getD bs (i + 4) 0) (getD bs (i + 5) 0)
-
--- those of each record; bytes that make no whole record give none
-abbrev pub words : List ℕ → List ℕ
-words bs = map (λ xs. wordAt xs 0) (pieces 6 bs)
 
 -- the bytes of a file before its first record: six of a header
 abbrev pub skipOf : (headed : Bool) → ℕ

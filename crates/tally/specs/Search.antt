@@ -7,10 +7,11 @@ use mathlib.Core.Logic.{_⊎_}
 use mathlib.Core.Path.{_≡_}
 use lib.ListN.{length}
 use Rattle.laws.specs.Cuts.{uncut}
+use Rattle.records.specs.Record.{words}
 use Rattle.tally.specs.declared.Spot.{Spot}
 use Rattle.tally.specs.declared.Sought.{Sought}
 use Rattle.tally.specs.declared.Sought.the-variants.{Here, Elsewhere}
-use Rattle.tally.specs.Places.{words, begunOf, passedOf, findOf, bodyOf}
+use Rattle.tally.specs.Places.{begunOf, passedOf, findOf, bodyOf}
 
 -- ── Sections in turn ────────────────────────────────────────────────────────────────────────
 

@@ -10,6 +10,7 @@ ghost use mathlib.Core.Path.{_≡_};
 ghost use Prim.Native.Nat.{_+_, _≤_};
 ghost use lib.Dec.{eqb};
 ghost use lib.ListN.{length};
+ghost use Rattle.records.specs.Record.{wordAt};
 ghost use Rattle.tally.specs.Walk.{wrapped};
 ghost use Rattle.tally.specs.Places as defs;
 ghost use Rattle.tally.specs.Contracts.{SpotStart, SpotBegun, SpotPassed, SpotFind};
@@ -111,7 +112,7 @@ fn comes_next(number: u64, n: u64) -> bool
 
 fn word_at(bytes: &[u8], at: usize) -> u64
     requires { ⌜ at + 6 ≤ length (now bytes) ⌝ }
-    ensures { λ r. ⌜ r ≡ defs.wordAt (now (bytes .entry)) at ⌝ }
+    ensures { λ r. ⌜ r ≡ wordAt (now (bytes .entry)) at ⌝ }
 {
     bits::word(
         bytes[at],

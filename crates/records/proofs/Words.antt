@@ -1,4 +1,4 @@
--- The records of bytes as numbers: where each stands, and bytes that are cut between records.
+-- The words of a section's bytes: the next, none, those of two parts, how many, where each stands; and their records.
 -- Assumes nothing.
 use Prim.Native.Nat.{ℕ, zero, suc, _+_, _*_, _/_, _%_, _≤_, _<_}
 use native.Mathlib.Nat.{add-zero}
@@ -7,12 +7,11 @@ use mathlib.Core.List.{List, [], _∷_, _++_, map}
 use mathlib.Core.Path.{_≡_, refl, ap, _∙_}
 use lib.ListN.{length, getD, take, drop, length-drop, length-map}
 use lib.Seq.{getD-take, getD-drop, drop-drop}
 use Rattle.records.specs.Pieces.{pieces}
-use Rattle.records.specs.Record.{fieldsOf, recordAt, records}
+use Rattle.records.specs.Record.{fieldsOf, wordAt, recordAt, words, records}
 use Rattle.records.proofs.Pieces.{length-pieces, no-piece, next-piece, pieces-append, map-append}
-use Rattle.tally.specs.Places.{wordAt, words}
 
-front : (bs : List ℕ) → wordAt (take 6 bs) 0 ≡ wordAt bs 0
+pub front : (bs : List ℕ) → wordAt (take 6 bs) 0 ≡ wordAt bs 0
 front bs =
     rw (getD-take 6 bs 0 0 (omega arith), getD-take 6 bs 1 0 (omega arith), getD-take 6 bs 2 0 (omega arith), getD-take 6 bs 3 0 (omega arith), getD-take 6 bs 4 0 (omega arith), getD-take 6 bs 5 0 (omega arith))
 
