@@ -27,12 +27,14 @@ asked-edition e w h = go (eqb (edition w) e) _ refl h
 
 pub asked-another : (e w : ℕ) → fieldsRefusal e w ≡ 2 → edition w ≡ e → ⊥
 unfolding fieldsRefusal
-asked-another e w h is = go (eqb (zeroA w) 0 && eqb (zeroB w) 0) (ltb (period w) (binOf (bin w) .least) || ltb 3300 (period w)) (rw (eq-eqb (edition w) e is) at h)
+asked-another e w h is =
+    go (eqb (zeroA w) 0 && eqb (zeroB w) 0) (ltb (period w) (binOf (bin w) .least) || ltb 3300 (period w)) refl refl
   where
-    go : (x y : Bool) → _≡_ {A = ℕ} (cond x (cond y 4 0) 3) 2 → ⊥
-    go true true z = omega arith
-    go true false z = omega arith
-    go false y z = omega arith
+    go : (x y : Bool) → eqb (zeroA w) 0 && eqb (zeroB w) 0 ≡ x → ltb (period w) (binOf (bin w) .least) || ltb 3300 (period w) ≡ y → ⊥
+    go true true p q = omega (arith, simp (eq-eqb (edition w) e is, p, q) at h)
+    go true false p q = omega (arith, simp (eq-eqb (edition w) e is, p, q) at h)
+    go false true p q = omega (arith, simp (eq-eqb (edition w) e is, p, q) at h)
+    go false false p q = omega (arith, simp (eq-eqb (edition w) e is, p, q) at h)
 
 -- ── The first byte ──────────────────────────────────────────────────────────────────────────
 
