@@ -1,4 +1,4 @@
--- The moved word, worked out from the word at once: `narrowed` and `widened` of src/moved.rt.
+-- The moved word, worked out from the word at once: what a rank sees of it, and `widened` of src/moved.rt.
 -- Assumes nothing.
 use Prim.Native.Nat.{ℕ, _+_, _*_, _/_, _%_, _^_, _<_}
 use native.Mathlib.Nat.{div-div-eq-div-mul, div-one}
