@@ -49,7 +49,6 @@ void count_clocks(struct counts *t, const struct header *h)
     t->mod = up(period, 15000, 12);
     t->rfc = up(period, refresh, 0);
     t->xs = up(period, refresh + 10000, 5);
-    t->zq_first = up(period, 640000, 512);
     t->zq_long = up(period, 320000, 256);
     t->zq_short = up(period, 80000, 64);
     t->most_ras = (h->hot ? 35100000 : 70000000) / period;

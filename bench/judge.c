@@ -195,13 +195,6 @@ static inline void hold_all(struct judge *j, int64_t edge)
     j->quiet = j->set_from = edge;
 }
 
-/* Up to the first ZQ after a reset no kept edge lets a command pass, so that the rules are asked each time. */
-static inline void ask_for_order(struct judge *j, unsigned place)
-{
-    j->place = place;
-    hold_all(j, NEVER);
-}
-
 /* Debt is 9 at debt_due, and one less for each interval before it. */
 static INLINE int refresh(struct judge *j, struct record r)
 {
@@ -221,10 +214,6 @@ static inline int calibrate(struct judge *j, struct record r)
     int32_t need = (r.a & A10) != 0 ? j->t.zq_long : j->t.zq_short;
     if ((r.edge < all_idle_from(j) || r.edge < j->quiet) && rules_break(j, r))
         return 1;
-    if (j->place == FIRST_ZQ) {
-        j->place = IN_ORDER;
-        need = j->t.zq_first;
-    }
     j->zq = mark(r, need);
     hold_all(j, r.edge + need);
     return 0;
@@ -248,8 +237,6 @@ static inline int set_mode(struct judge *j, struct record r)
         j->reset = mark(r, DLL_LOCK);
         j->column_from[READ] = r.edge + DLL_LOCK;
     }
-    if (j->place < IN_ORDER)
-        ask_for_order(j, j->place + 1);
     return 0;
 }
 
@@ -316,83 +303,14 @@ static inline int power_up(struct judge *j, struct record r)
     return 0;
 }
 
-/* ---- reset */
-
-/* Nothing was recorded, and nothing is due. */
-static void clear(struct judge *j)
-{
-    struct mark none = {LONG_AGO, 0, 0};
-    struct column no_column = {LONG_AGO, {0, 0, 0, 0}, 0};
-    struct bank idle = {LONG_AGO, NEVER, LONG_AGO, LONG_AGO, none, {no_column, no_column}, 0, 0, 0};
-    struct judge clean;
-    int i;
-    memset(&clean, 0, sizeof clean);
-    clean.header = j->header;
-    clean.t = j->t;
-    for (i = 0; i < BANKS; i++)
-        clean.bank[i] = idle;
-    for (i = 0; i < 4; i++)
-        clean.acts[i] = none;
-    clean.ref = clean.mrs = clean.zq = clean.reset = clean.woke = clean.slept = none;
-    clean.changed = clean.entry = clean.left = clean.slow = clean.auto_write = none;
-    clean.quiet = clean.set_from = clean.column_from[WRITE] = LONG_AGO;
-    clean.act_from = clean.column_from[READ] = NEVER;
-    clean.debt_due = clean.gap_due = clean.soonest = NEVER;
-    clean.place = IN_ORDER;
-    clean.mode = RESET_LOW;
-    *j = clean;
-}
-
-/* The awake clock starts behind this edge. */
-static void start(struct judge *j, int64_t edge)
-{
-    j->mode = AWAKE;
-    j->debt_due = edge + MOST_DEBT * (int64_t)j->t.refi;
-    j->gap_due = edge + j->t.stay + 1;
-    j->soonest = sooner(j->debt_due, edge + j->t.most_ras + 1);
-}
-
-/* A deadline at the low record's own edge is not broken; before the first record RESET has its level. */
-static int __attribute__((cold)) hold_in_reset(struct judge *j, struct record r)
-{
-    struct deadline due = soonest_deadline(j);
-    if (due.at < r.edge && r.number > 1) {
-        say_late(j, due);
-        return 1;
-    }
-    if (j->mode != RESET_LOW)
-        clear(j);
-    return 0;
-}
-
-static int __attribute__((cold)) rise(struct judge *j, struct record r)
-{
-    start(j, r.edge);
-    j->woke = mark(r, j->t.xs);
-    j->changed = mark(r, j->t.cke);
-    ask_for_order(j, 0);
-    return 0;
-}
-
-static int __attribute__((cold)) leave_reset(struct judge *j, struct record r)
-{
-    if (r.command == RISE)
-        return rise(j, r);
-    j->mode = r.command == RAISE ? RAISED : READY;
-    return 0;
-}
-
 /* By what the part does; CKE now, CS, RAS, CAS, WE. DES, and whatever comes while CKE stays low, is as good as NOP. */
 #define EIGHT(command) command, command, command, command, command, command, command, command
 #define SEVEN_FORBIDDEN FORBIDDEN, FORBIDDEN, FORBIDDEN, FORBIDDEN, FORBIDDEN, FORBIDDEN, FORBIDDEN
-static const uint8_t COMMAND[MODES][32] = {
+static const uint8_t COMMAND[3][32] = {
     {EIGHT(NOP), EIGHT(NOP), SEVEN_FORBIDDEN, SRX, EIGHT(SRX)},
     {FORBIDDEN, SRE, FORBIDDEN, FORBIDDEN, FORBIDDEN, FORBIDDEN, FORBIDDEN, PDE, EIGHT(PDE),
      MRS, REF, PRE, ACT, WR, RD, ZQ, NOP, EIGHT(NOP)},
     {EIGHT(NOP), EIGHT(NOP), SEVEN_FORBIDDEN, PDX, EIGHT(PDX)},
-    {EIGHT(GET_READY), EIGHT(GET_READY), EIGHT(RAISE), EIGHT(RAISE)},
-    {EIGHT(GET_READY), EIGHT(GET_READY), EIGHT(NOP), EIGHT(NOP)},
-    {EIGHT(NOP), EIGHT(NOP), SEVEN_FORBIDDEN, RISE, EIGHT(RISE)},
 };
 
 static INLINE int breaks(struct judge *j, struct record r)
@@ -412,7 +330,6 @@ static INLINE int breaks(struct judge *j, struct record r)
     case SRX: return wake(j, r);
     case PDE: return power_down(j, r);
     case PDX: return power_up(j, r);
-    case RAISE: case GET_READY: case RISE: return leave_reset(j, r);
     default: return rules_break(j, r);
     }
 }
@@ -424,8 +341,6 @@ static inline uint32_t first_four(const uint8_t *at)
 {
     return (uint32_t)at[0] << 24 | (uint32_t)at[1] << 16 | (uint32_t)at[2] << 8 | at[3];
 }
-
-enum { RESET_LEVEL = 1 << 7 }; /* in edition 2 */
 
 /* CKE, CS, RAS, CAS, WE. In edition 2 they stand as RESET, CKE, CS, CS of the second rank, ODT, RAS, CAS, WE. */
 static inline unsigned levels_of(uint32_t four, int wide, unsigned rank)
@@ -465,7 +380,7 @@ static INLINE int take(struct judge *j, const uint8_t *at, const uint8_t *end, i
         r.edge = edge += four >> 8;
         r.number = ++number;
         at += size;
-        broken = wide && (four & RESET_LEVEL) == 0 ? hold_in_reset(j, r) : breaks(j, r);
+        broken = breaks(j, r);
     }
     number += (uint32_t)((size_t)(end - at) / size);
     for (; at < end; at += size) {
@@ -485,14 +400,28 @@ static INLINE int take(struct judge *j, const uint8_t *at, const uint8_t *end, i
 
 int judge_open(struct judge *j, const uint8_t *header, size_t length)
 {
+    struct mark none = {LONG_AGO, 0, 0};
+    struct column no_column = {LONG_AGO, {0, 0, 0, 0}, 0};
+    struct bank idle = {LONG_AGO, NEVER, LONG_AGO, LONG_AGO, none, {no_column, no_column}, 0, 0, 0};
     struct header h;
-    int refused = length != SIX ? 1 : read_header(&h, header);
+    int i, refused = length != SIX ? 1 : read_header(&h, header);
     if (refused)
         return refused;
+    memset(j, 0, sizeof *j);
     j->header = h;
     count_clocks(&j->t, &h);
-    clear(j);
-    start(j, 0);
+    for (i = 0; i < BANKS; i++)
+        j->bank[i] = idle;
+    for (i = 0; i < 4; i++)
+        j->acts[i] = none;
+    j->ref = j->mrs = j->zq = j->reset = j->woke = j->slept = none;
+    j->changed = j->entry = j->left = j->slow = j->auto_write = none;
+    j->quiet = j->set_from = j->column_from[WRITE] = LONG_AGO;
+    j->act_from = j->column_from[READ] = NEVER;
+    j->mode = AWAKE;
+    j->debt_due = MOST_DEBT * (int64_t)j->t.refi;
+    j->gap_due = j->t.stay + 1;
+    j->soonest = sooner(j->debt_due, j->t.most_ras + 1);
     return 0;
 }
 

@@ -1,4 +1,4 @@
-/* A judge of DDR3 command recordings of both editions in plain C, to be measured beside the proved one: the same 32 rules,
+/* A judge of DDR3 command recordings of both editions in plain C, to be measured beside the proved one: the same 31 rules,
  * the same refusals, a running state that keeps no record. Written from the rules paper; nothing in it is proved. */
 #ifndef BENCH_JUDGE_H
 #define BENCH_JUDGE_H
@@ -17,7 +17,7 @@ struct header {
 
 /* A header's times in clocks. */
 struct counts {
-    int32_t rcd, rp, rc, ras, rrd, faw, cke, rtp, wtr, wr, mod, rfc, xs, zq_first, zq_long, zq_short, most_ras, refi;
+    int32_t rcd, rp, rc, ras, rrd, faw, cke, rtp, wtr, wr, mod, rfc, xs, zq_long, zq_short, most_ras, refi;
     int32_t xp, xpdll, stay;
 };
 
@@ -49,12 +49,8 @@ struct column {
 
 enum direction { READ, WRITE };
 
-/* What the part does behind the latest record: in self-refresh, with CKE high, in power-down; in reset with RESET low, and
- * with RESET high again and CKE high or low. */
-enum mode { ASLEEP, AWAKE, DOWN, RESET_LOW, RAISED, READY, MODES };
-
-/* The commands of the order after a reset: MR2, MR3, MR1, MR0 with DLL reset, a long ZQ. */
-enum { FIRST_ZQ = 4, IN_ORDER = 5 };
+/* What the part does behind the latest record: in self-refresh, with CKE high, in power-down. */
+enum mode { ASLEEP, AWAKE, DOWN };
 
 /* The edges from which the rules that look at the bank alone let ACT, a column and PRE pass. start: of the latest
  * precharge, NEVER while the bank is open; shut_by: its record. late: it starts after rule 24's limit. */
@@ -94,7 +90,6 @@ struct judge {
     struct mark auto_write; /* the latest WR with auto precharge: rule 26 may ask more of it than of a later WR */
     int closed; /* no bank was open at the entry */
     int64_t debt_due, gap_due; /* the edges at which rules 25 and 31 break; while asleep what is left to them */
-    unsigned place; /* so many commands of the order were given; IN_ORDER: nothing more is asked */
     unsigned written; /* a bit for each register, and one for a DLL reset */
     uint16_t code[4];
     int refresh_owed;
@@ -129,7 +124,7 @@ int32_t act_to_column(const struct counts *t, const uint16_t *code);
 void column_kinds(struct kind *kind, const struct counts *t, const uint16_t *code);
 
 /* rules.c: the rules that are no deadline at the latest record; 1 if one is broken, which is then `first`. */
-enum command { MRS, REF, PRE, ACT, WR, RD, ZQ, NOP, SRE, SRX, PDE, PDX, FORBIDDEN, RAISE, GET_READY, RISE };
+enum command { MRS, REF, PRE, ACT, WR, RD, ZQ, NOP, SRE, SRX, PDE, PDX, FORBIDDEN };
 enum { DLL_RESET = 1 << 4, ALL_WRITTEN = 15, DLL_LOCK = 512, MRS_TO_MRS = 4, SAME_TO_SAME = 4, A10 = 1 << 10 };
 int breaks_a_rule(struct judge *j, enum command command, unsigned ba, unsigned a) __attribute__((cold));
 void say(struct judge *j, int rule, uint32_t record, uint32_t partner, int64_t needed, int64_t found);

@@ -218,19 +218,7 @@ static int soon_to_enter(struct judge *j)
     return last && soon(j, 26, last);
 }
 
-/* ---- rule 32 */
-
-static int out_of_turn(const struct judge *j, enum command command, unsigned ba, unsigned a)
-{
-    static const unsigned MODE[FIRST_ZQ] = {2, 3, 1, 0};
-    if (j->place == IN_ORDER || command > SRE || command == NOP)
-        return 0;
-    if (j->place == FIRST_ZQ)
-        return command != ZQ || (a & A10) == 0;
-    return command != MRS || ba != MODE[j->place] || (ba == 0 && (a >> 8 & 1) == 0);
-}
-
-static int breaks_a_lower_rule(struct judge *j, enum command command, unsigned ba, unsigned a)
+int breaks_a_rule(struct judge *j, enum command command, unsigned ba, unsigned a)
 {
     const struct bank *b = &j->bank[ba];
     switch (command) {
@@ -247,9 +235,4 @@ static int breaks_a_lower_rule(struct judge *j, enum command command, unsigned b
     case FORBIDDEN: return without_clocks(j, 1, 0);
     default: return 0;
     }
-}
-
-int breaks_a_rule(struct judge *j, enum command command, unsigned ba, unsigned a)
-{
-    return breaks_a_lower_rule(j, command, ba, a) || (out_of_turn(j, command, ba, a) && without_clocks(j, 32, 0));
 }

@@ -44,16 +44,13 @@ extern "C" {
  *
  * A record of edition 1 has step 24 bits, CKE, CS, RAS, CAS, WE 1 each, BA 3, A15 to A0 16; one of edition 2 step 24,
  * RESET, CKE, CS of the first rank, CS of the second, ODT, RAS, CAS, WE 1 each, BA 3, A15 to A0 16, zero 13. Each
- * rank of edition 2 is judged by itself: it sees every record, with its own CS. ODT is not judged. RESET low clears both
- * ranks, and pins are ignored until CKE rises, with a NOP or DES, at a record after the one that raises RESET; then come
- * tXS (rule 21), and MR2, MR3, MR1, MR0 with DLL reset and a long ZQ in this order (rule 32). RESET's own times are not
- * judged.
+ * rank of edition 2 is judged by itself: it sees every record, with its own CS. RESET and ODT are not judged.
  *
  * Writes 20 bytes to the start of out, in edition 2 40, the first rank's 20 and then the second's; numbers most
  * significant byte first:
  *   outcome 1 byte (0 clean, 1 broken), rule 1, record 3, partner 3, edge 6, needed 3, found 3
  * Clean: record is the number of records, edge is end, the rest 0. Broken: the first broken edge and
- * the lowest of the 32 rules broken there; record is the number of the record that breaks it (from 1),
+ * the lowest of the 31 rules broken there; record is the number of the record that breaks it (from 1),
  * and 0 for rules 24, 25, 28 and 31, which are deadlines, also where a record stands at that edge; partner is
  * that of the earlier record that proves it (0: none); needed and found are clocks, of rule 31 those of the
  * awake clock, which stands still in self-refresh, but for rule 3 on an MRS: there needed is 0 and found

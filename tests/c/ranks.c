@@ -1,5 +1,5 @@
 /* Judging a whole recording of edition 2 from C: each answer and each byte of the lent buffers is held to the tables below,
- * which are written from Q-7 and Q-8. */
+ * which are written from Q-7. */
 #define MOST_LENT 44
 #include "checks.h"
 
@@ -20,43 +20,8 @@ static const uint8_t P8_SECOND[] = {HEADER, P8_OF(SECOND, 4)};
 static const uint8_t P8_BOTH[] = {HEADER, P8_OF(BOTH, 4)};
 static const uint8_t P9_BOTH[] = {HEADER, P8_OF(BOTH, 5)};
 static const uint8_t P8_NONE[] = {HEADER, P8_OF(NONE, 4)};
-/* The same with ODT high, which is not judged; and with RESET low, where pins are ignored and no deadline runs. */
-static const uint8_t UNJUDGED[] = {HEADER, P8_OF((FIRST ^ 0x08), 4)};
-static const uint8_t IN_RESET[] = {HEADER, P8_OF((FIRST ^ 0x80), 4)};
-/* From power-up: RESET low at edge 1, high at 2, CKE's rise at 3; then MR2, MR3, MR1, MR0, ZQ long, each behind so many clocks, to both. */
-#define RESET 0, 0, 1, 0x37, 0, 0, 0, 0, 0, 0, 1, 0xB7, 0, 0, 0, 0
-#define RISE 0, 0, 1, 0xF7, 0, 0, 0, 0
-#define MR2(step) 0, 0, step, 0xC0, 0x40, 0x02, 0, 0
-#define MR3(step) 0, 0, step, 0xC0, 0x60, 0, 0, 0
-#define MR1(step) 0, 0, step, 0xC0, 0x20, 0, 0, 0
-#define MR0(step) 0, 0, step, 0xC0, 0x01, 0x6A, 0, 0
-#define NO_RESET_OF_DLL(step) 0, 0, step, 0xC0, 0x01, 0x4A, 0, 0
-#define ZQCL(step) 0, 0, step, 0xC6, 0, 0x80, 0, 0
-#define ZQCS(step) 0, 0, step, 0xC6, 0, 0, 0, 0
-#define UP RESET, RISE, MR2(80), MR3(4), MR1(4), MR0(4)
-#define ACT(high, low) 0, high, low, 0xD3, 0x60, 0x24, 0x60, 0 /* of the first rank */
-static const uint8_t KEPT[] = {HEADER, UP, ZQCL(12), ACT(2, 0)};
-static const uint8_t ZQ_SOON[] = {HEADER, UP, ZQCL(12), ACT(1, 0xFF)};
-static const uint8_t XS_SOON[] = {HEADER, RESET, RISE, MR2(79)};
-static const uint8_t TURN_2[] = {HEADER, RESET, RISE, MR3(80)};
-static const uint8_t TURN_3[] = {HEADER, RESET, RISE, MR2(80), MR1(4)};
-static const uint8_t TURN_1[] = {HEADER, RESET, RISE, MR2(80), MR3(4), MR2(4)};
-static const uint8_t TURN_0[] = {HEADER, RESET, RISE, MR2(80), MR3(4), MR1(4), NO_RESET_OF_DLL(4)};
-static const uint8_t TURN_ZQ[] = {HEADER, UP, ZQCS(12)};
-static const uint8_t TURN_REF[] = {HEADER, UP, 0, 0, 12, 0xD1, 0, 0, 0, 0}; /* of the first rank; the second is deselected */
-/* A power-down within the order, which is no command. */
-static const uint8_t DOWN[] = {HEADER, RESET, RISE, 0, 0, 4, 0xB7, 0, 0, 0, 0, 0, 0, 4, 0xF7, 0, 0, 0, 0, MR2(72), MR3(4)};
-/* The rise with the pins of a REF of the first rank. */
-static const uint8_t SPOILT[] = {HEADER, RESET, 0, 0, 1, 0xD1, 0, 0, 0, 0, MR2(80)};
-/* RESET raised with CKE high: no rise comes, and nothing is judged. */
-static const uint8_t NO_RISE[] = {HEADER, 0, 0, 1, 0x77, 0, 0, 0, 0, 0, 0, 1, 0xF7, 0, 0, 0, 0, ACT(0, 1)};
-/* The rise at the record that raises RESET is none; CKE falls and rises behind it. */
-static const uint8_t AT_ONCE[] = {HEADER, 0, 0, 1, 0x37, 0, 0, 0, 0, 0, 0, 1, 0xF7, 0, 0, 0, 0, MR3(1), 0, 0, 1, 0xB7, 0, 0, 0, 0, RISE, MR3(80)};
-static const uint8_t RISEN[] = {HEADER, RESET, RISE};
-/* A bank open, then RESET: the bank is idle again, and the order begins anew. */
-static const uint8_t AGAIN[] = {HEADER, P8_OF(FIRST, 5), RESET, RISE, MR3(80)};
-/* A rank that is broken stays so. */
-static const uint8_t BROKEN[] = {HEADER, P8_OF(FIRST, 4), RESET, RISE, MR3(80)};
+/* The same with RESET low and ODT high, which are not judged. */
+static const uint8_t UNJUDGED[] = {HEADER, P8_OF((FIRST ^ 0x88), 4)};
 static const uint8_t EMPTY[] = {HEADER};
 /* An SRE of the first rank is a power-down entry of the second; the exit at edge 5 or 6, alone or with a REF's pins. */
 #define ASLEEP 0, 0, 1, 0x91, 0, 0, 0, 0
@@ -83,25 +48,6 @@ static const struct {
     {P9_BOTH, sizeof P9_BOTH, 530, 0, {0, 0, 7, 0, 530, 0, 0}, {0, 0, 7, 0, 530, 0, 0}},
     {P8_NONE, sizeof P8_NONE, 529, 0, {0, 0, 7, 0, 529, 0, 0}, {0, 0, 7, 0, 529, 0, 0}},
     {UNJUDGED, sizeof UNJUDGED, 529, 0, {1, 10, 7, 6, 529, 5, 4}, {0, 0, 7, 0, 529, 0, 0}},
-    {IN_RESET, sizeof IN_RESET, 529, 0, {0, 0, 7, 0, 529, 0, 0}, {0, 0, 7, 0, 529, 0, 0}},
-    {IN_RESET, sizeof IN_RESET, 9999999, 0, {0, 0, 7, 0, 9999999, 0, 0}, {0, 0, 7, 0, 9999999, 0, 0}},
-    {KEPT, sizeof KEPT, 619, 0, {0, 0, 9, 0, 619, 0, 0}, {0, 0, 9, 0, 619, 0, 0}},
-    {ZQ_SOON, sizeof ZQ_SOON, 618, 0, {1, 18, 9, 8, 618, 512, 511}, {0, 0, 9, 0, 618, 0, 0}},
-    {XS_SOON, sizeof XS_SOON, 82, 0, {1, 21, 4, 3, 82, 80, 79}, {1, 21, 4, 3, 82, 80, 79}},
-    {TURN_2, sizeof TURN_2, 83, 0, {1, 32, 4, 0, 83, 0, 0}, {1, 32, 4, 0, 83, 0, 0}},
-    {TURN_3, sizeof TURN_3, 87, 0, {1, 32, 5, 0, 87, 0, 0}, {1, 32, 5, 0, 87, 0, 0}},
-    {TURN_1, sizeof TURN_1, 91, 0, {1, 32, 6, 0, 91, 0, 0}, {1, 32, 6, 0, 91, 0, 0}},
-    {TURN_0, sizeof TURN_0, 95, 0, {1, 32, 7, 0, 95, 0, 0}, {1, 32, 7, 0, 95, 0, 0}},
-    {TURN_ZQ, sizeof TURN_ZQ, 107, 0, {1, 32, 8, 0, 107, 0, 0}, {1, 32, 8, 0, 107, 0, 0}},
-    {TURN_REF, sizeof TURN_REF, 107, 0, {1, 32, 8, 0, 107, 0, 0}, {0, 0, 8, 0, 107, 0, 0}},
-    {DOWN, sizeof DOWN, 87, 0, {0, 0, 7, 0, 87, 0, 0}, {0, 0, 7, 0, 87, 0, 0}},
-    {SPOILT, sizeof SPOILT, 83, 0, {1, 1, 3, 0, 3, 0, 0}, {0, 0, 4, 0, 83, 0, 0}},
-    {NO_RISE, sizeof NO_RISE, 9999999, 0, {0, 0, 3, 0, 9999999, 0, 0}, {0, 0, 3, 0, 9999999, 0, 0}},
-    {AT_ONCE, sizeof AT_ONCE, 85, 0, {1, 32, 6, 0, 85, 0, 0}, {1, 32, 6, 0, 85, 0, 0}},
-    {RISEN, sizeof RISEN, 46802, 0, {0, 0, 3, 0, 46802, 0, 0}, {0, 0, 3, 0, 46802, 0, 0}},
-    {RISEN, sizeof RISEN, 46803, 0, {1, 25, 0, 0, 46803, 8, 9}, {1, 25, 0, 0, 46803, 8, 9}},
-    {AGAIN, sizeof AGAIN, 613, 0, {1, 32, 11, 0, 613, 0, 0}, {1, 32, 11, 0, 613, 0, 0}},
-    {BROKEN, sizeof BROKEN, 612, 0, {1, 10, 7, 6, 529, 5, 4}, {1, 32, 11, 0, 612, 0, 0}},
     {P8_FIRST, sizeof P8_FIRST, 528, 8, {0}, {0}},
     {EMPTY, sizeof EMPTY, 46799, 0, {0, 0, 0, 0, 46799, 0, 0}, {0, 0, 0, 0, 46799, 0, 0}},
     {EMPTY, sizeof EMPTY, 46800, 0, {1, 25, 0, 0, 46800, 8, 9}, {1, 25, 0, 0, 46800, 8, 9}},

@@ -78,7 +78,6 @@ def edition_2_back(folder):
     pins = ['--pin', 'RESET=RESET', '--pin', 'ODT=ODT', '--pin', 'CS1=CS1']
     ran = run(folder, '--import', 'v.rec', *PART, '--still', '--period', '1500', *pins, 'w.vcd')
     check(f'edition 2 there and back: {ran}', ran.returncode == 0 and (folder / 'v.rec').read_bytes() == WIDE)
-    begins_in_reset(folder, pins)
     for what, bad, word in [
         ('a period of 0', b'\x24' + bytes(5), b'period'), ('step 0', WIDE[:6] + bytes(3) + WIDE[9:], b"w.rec:0x6: refused 6: the record's step is 0"),
         ('bits', WIDE[:-1] + b'\1', b'must be 0'), ('ragged', WIDE[:-1], b'does not end between records'), ('edition 3', b'\x34' + WIDE[1:], b'no edition 3'),
@@ -86,18 +85,6 @@ def edition_2_back(folder):
         (folder / 'w.rec').write_bytes(bad)
         ran = run(folder, '--export', 'w.vcd', 'w.rec')
         check(f'export of edition 2 with {what}: {ran}', ran.returncode == 2 and word in ran.stderr and ran.stderr.count(b'\n') == 1)
-
-
-def begins_in_reset(folder, pins):
-    """Before its first record a recording has that one's RESET: where it is low and nothing happens until it rises, the first edge has a record."""
-    up = '000009f700000000' + '000003b700000000' + '000004f700000000'  # RESET high, CKE low, its rise
-    for what, first, wanted in ('CKE high', '0000057700000000', '0000017700000000' + '00000df700000000' + up[16:]), ('CKE low', '0000053700000000', '0000053700000000' + up):
-        (folder / 'w.rec').write_bytes(bytes.fromhex('2405dc000000' + first + up))
-        ran = run(folder, '--export', 'w.vcd', 'w.rec')
-        check(f'export that begins in reset, {what}: {ran}', ran.returncode == 0)
-        ran = run(folder, '--import', 'v.rec', *PART, '--period', '1500', *pins, 'w.vcd')
-        found = (folder / 'v.rec').read_bytes()[6:].hex()
-        check(f'import that begins in reset, {what}: {ran} {found}', ran.returncode == 0 and ran.stderr == b'' and found == wanted)
 
 
 TESTS = [round_trips, edition_2, edition_2_back]

@@ -10,12 +10,12 @@ TO = {'first': (0, 1), 'second': (1, 0), 'both': (0, 0)}  # what the selects are
 
 
 def widened(recording, to):
-    """In edition 2, with ODT high, which is not judged."""
+    """In edition 2, with RESET low and ODT high, which are not judged."""
     found = bytes([recording[0] & 15 | 2 << 4]) + recording[1:6]
     for at in range(6, len(recording), 6):
         word = int.from_bytes(recording[at:at + 6], 'big')
         first, second = (word >> 22 & 1 | other for other in TO[to])
-        levels = 1 << 7 | (word >> 23 & 1) << 6 | first << 5 | second << 4 | 1 << 3 | word >> 19 & 7
+        levels = (word >> 23 & 1) << 6 | first << 5 | second << 4 | 1 << 3 | word >> 19 & 7
         found += (word >> 24 << 40 | levels << 32 | (word & 0x7FFFF) << 13).to_bytes(8, 'big')
     return found
 
@@ -81,29 +81,4 @@ def exports(folder):
                 check(f'rule {rule} of {to}: rank {rank} is marked at {marks}, not {wanted}', marks == wanted)
 
 
-# RESET low, with the pins of a REF, and high, two clocks after; CKE's rise two clocks after that; MR2, MR3, MR1, MR0, ZQ long, each as soon as it may come.
-RESET, RISE = '009c4011' + '00000000' + '000002b700000000', '000002f700000000'
-ORDER = '000050c040020000' + '000004c060000000' + '000004c020000000' + '000004c0016a0000' + '00000cc600800000'
-KEPT = bytes.fromhex('2405dc000000' + '000064c100000000' + RESET + RISE + ORDER + '000fa0c100000000' + '000100d360246000')
-TURN = bytes.fromhex('2405dc000000' + RESET + RISE + '000050' + ORDER[22:])
-SOON = bytes.fromhex('2405dc000000' + RESET + RISE + '00004f' + ORDER[6:])
-
-
-def resets(folder):
-    """The order's break has no arrow, that of tXS one from the rise; a clean one's curves come to the proved counts and debt, which a reset puts to 0."""
-    for what, recording, rule, marks in ('turn', TURN, 32, ['rise', 'reset']), ('soon', SOON, 21, ['rise', 'found 79, needed 80']):
-        ran, words = drawn(folder, recording)
-        check(f'the picture from power-up, {what}: {ran}', ran.returncode == 1 and all(f'by rule {rule} ' in line for line in heads(words)) and len(heads(words)) == 2)
-        check(f'the picture from power-up, {what}, has not {marks}', set(marks) <= set(words))
-        ran = run(folder, '--page', 'r.html', 'r.rec')
-        check(f'the page from power-up, {what}: {ran}', ran.returncode == 1 and (folder / 'r.html').read_text().count('rank: Just before the broken edge') == 2)
-    for what, recording in ('kept', KEPT), ('in reset', KEPT[:6 + 3 * 8]):
-        ran, words = drawn(folder, recording)
-        check(f'the picture from power-up, {what}: {ran}', ran.returncode == 0 and words.count('Commands a microsecond') == 2)
-    (folder / 'r.rec').write_bytes(KEPT)
-    ran = run(folder, '--export', 'r.vcd', '--gap', '1000', 'r.rec')
-    dump = (folder / 'r.vcd').read_bytes()
-    check(f'the export from power-up: {ran}', ran.returncode == 0 and dump.count(b'\nsRESET ') == 4 and dump.count(b'\nsRISE ') == 2)
-
-
-TESTS = [breaks, clean, pages, exports, resets]
+TESTS = [breaks, clean, pages, exports]

@@ -3,7 +3,6 @@
 HEADER = bytes.fromhex('1405dc000000')  # P8's: bin 1, 1 Gb, x8, 1500 ps; tREFI 5200, tRFC 74, tXS 80, tCKE and tXP 4
 WIDE = bytes.fromhex('2405dc000000')
 NAMES = 'MRS REF PRE PREA ACT WR WRA RD RDA ZQCL ZQCS NOP DES SRE SRX IGNORED FORBIDDEN PDE PDX'.split()
-OF_RESETS = ['RESET', 'RISE']
 LIMIT = 1048576
 
 
@@ -16,11 +15,6 @@ def is_wide(recording):
 def size(recording):
     """The bytes of a record."""
     return 8 if is_wide(recording) else 6
-
-
-def names(recording):
-    """Those that its records can have."""
-    return NAMES + OF_RESETS if is_wide(recording) else NAMES
 
 
 def ranks(recording):
@@ -49,30 +43,14 @@ def record(step, cke, pins, bank=0, a=0):
     return (step << 24 | cke << 23 | pins << 19 | bank << 16 | a).to_bytes(6, 'big')
 
 
-def resets(recording):
-    """For each record behind the header whether RESET is low."""
-    if not is_wide(recording):
-        return [False] * ((len(recording) - 6) // 6)
-    return [recording[at + 3] < 128 for at in range(6, len(recording), 8)]
-
-
-def commands(recording, rank=0):
-    """For each record its command to the rank, edge, bank and address. In reset pins are ignored, from the record with RESET low on, up to the rise of CKE:
-    at a record behind the one that raises RESET."""
-    records, low, dark, before = seen(recording, rank), resets(recording), False, None
+def commands(records):
+    """For each record its command, edge, bank and address."""
     level, asleep, edge = 1, False, 0
     for at in range(0, len(records), 6):
         word = int.from_bytes(records[at:at + 6], 'big')
         edge += word >> 24
         cke, pins, a = word >> 23 & 1, word >> 19 & 15, word & 65535
         long = a >> 10 & 1
-        now = low[at // 6], cke
-        rise = dark and before == (False, 0) and now == (False, 1)
-        dark, before = low[at // 6] or dark and not rise, now
-        if dark or rise:
-            name, level, asleep = 'RISE' if rise else 'RESET', 1, False
-            yield name, edge, word >> 16 & 7, a
-            continue
         if (level, cke) == (1, 1):
             plain = 'MRS REF PRE ACT WR RD ZQC NOP'.split() + 8 * ['DES']
             name = plain[pins]
@@ -88,9 +66,9 @@ def commands(recording, rank=0):
         yield name, edge, word >> 16 & 7, a
 
 
-def counted(recording, rank):
-    count = dict.fromkeys(names(recording), 0)
-    for name, *_ in commands(recording, rank):
+def counted(records):
+    count = dict.fromkeys(NAMES, 0)
+    for name, *_ in commands(records):
         count[name] += 1
     return count
 
@@ -124,41 +102,24 @@ def wild(chance):
                     for _ in range(30000))
 
 
-def powered_up(chance):
-    """RESET low and any pins, RESET high and any pins until CKE is low, CKE's rise, and the order behind it: no rule is broken."""
-    def ignored(reset, cke):
-        return wide(chance.randint(1, 9999), cke, chance.randrange(4), chance.randrange(8), chance.randrange(8), chance.randrange(65536), reset, chance.randrange(2))
-
-    def mrs(step, register, code):
-        return wide(step, 1, 0, 0, register, code)
-    low = [ignored(0, chance.randrange(2)) for _ in range(chance.randint(1, 4))]
-    high = [ignored(1, 1) for _ in range(chance.randrange(3))] + [ignored(1, 0) for _ in range(chance.randint(1, 3))]
-    rise = wide(chance.randint(1, 9999), 1, *chance.choice([(3, chance.randrange(8)), (0, 7)]))
-    down = [wide(9, 0, 3, 7), wide(4, 1, 3, 7)] if chance.random() < 0.5 else []  # a power-down within the order
-    order = [mrs(chance.randint(80, 99), 2, 0x10), mrs(4, 3, 0), mrs(chance.randint(4, 9), 1, 0), mrs(4, 0, 0xB50), wide(12, 1, 0, 6, a=1024)]
-    return [*low, *high, rise, *down, *order, wide(512, 1, 0, 2, a=1024)]
-
-
 def kept_on_two(chance):
-    """Refreshes in time for both ranks, sometimes together, and now and then a power-down, a self-refresh of one of them or of both, or a reset."""
+    """Refreshes in time for both ranks, sometimes together, and now and then a power-down, or a self-refresh of one of them or of both."""
     records = [wide(100, 1, 0, 2, a=1024)]
     for _ in range(300):
         records += chance.choice([[wide(chance.randint(1000, 5000), 1, 0, 1)], [wide(chance.randint(500, 2500), 1, one, 1) for one in (1, 2)]])
         for _ in range(chance.randrange(4)):
-            records.append(wide(chance.randint(1, 9), 1, 3, chance.randrange(8), chance.randrange(8), chance.randrange(65536), 1, chance.randrange(2)))
+            records.append(wide(chance.randint(1, 9), 1, 3, chance.randrange(8), chance.randrange(8), chance.randrange(65536), chance.randrange(2), chance.randrange(2)))
         if chance.random() < 0.6:
             selects = chance.choice([0, 1, 2, 3])
             records += [wide(100, 0, selects, 1), wide(chance.randint(10, 999), 1, 3, chance.randrange(8))]
-        if chance.random() < 0.2:
-            records += powered_up(chance)
     return b''.join(records)
 
 
 def wild_on_two(chance):
-    """Any levels, REF and SRE often, RESET seldom low."""
+    """Any levels, REF and SRE often."""
     def one():
         command = chance.choice([1, 1, 7] + list(range(8)))
-        return wide(chance.randint(1, 300), chance.random() < 0.7, chance.randrange(4), command, chance.randrange(8), chance.randrange(65536), chance.random() < 0.99, chance.randrange(2))
+        return wide(chance.randint(1, 300), chance.random() < 0.7, chance.randrange(4), command, chance.randrange(8), chance.randrange(65536), chance.randrange(2), chance.randrange(2))
     return b''.join(one() for _ in range(20000))
 
 

@@ -8,7 +8,6 @@ use crate::header::{read_header, Header};
 use crate::random::Random;
 use crate::recording::{cke_after, read_records, Record};
 use crate::slips::would_break;
-use crate::tape::Tape;
 
 /// So many records of the other rank stand between two of the first, at most.
 const MOST_BETWEEN: usize = 6;
@@ -16,46 +15,37 @@ const MOST_BETWEEN: usize = 6;
 const DESELECTED: u8 = 0b1000;
 
 /// A record at its edge, and which ranks it goes to.
-pub struct Sent {
-    pub edge: i64,
+struct Sent {
+    edge: i64,
     record: Record,
     to: [bool; 2],
 }
 
-impl Sent {
-    pub fn wide(&self) -> Wide {
-        let cs = self.to.map(|own| !own || self.record.pins & DESELECTED != 0);
-        Wide { cs, ..Wide::of(&self.record) }
-    }
-}
-
-/// The recording on one of two ranks. RESET is high, or rarely anything.
+/// The recording on one of two ranks. RESET and ODT are as in one that was moved, or anything.
 pub fn on_two_ranks(random: &mut Random, narrow: &Case) -> Case {
-    let sent = to_two_ranks(random, narrow, false);
-    let often_high = if random.chance(5) { random.pick(&[50, 80, 97]) } else { 100 };
-    let mut tape = Tape::new(random, &header_of(narrow));
-    for one in &sent {
-        let reset = random.chance(often_high);
-        tape.put(random, one.edge, Wide { reset, ..one.wide() });
-    }
-    let before = narrow.last_edge();
-    let end = if narrow.end >= before { narrow.end.max(tape.now as u64) } else { narrow.end };
-    Case { edition: Two, recording: tape.recording, end, lent: 40 }
-}
-
-/// One of two ranks is driven as the recording says; risen: it begins at the rise that ends a reset.
-pub fn to_two_ranks(random: &mut Random, narrow: &Case, risen: bool) -> Vec<Sent> {
-    let mut sent = match random.weighted(&[60, 8, 10, 8, 14]) {
-        0 => with_an_own_controller(random, narrow, risen),
+    let sent = match random.weighted(&[60, 8, 10, 8, 14]) {
+        0 => with_an_own_controller(random, narrow),
         1 => addressed(narrow, |_| [true, true]),
         2 => addressed(narrow, |_| [true, false]),
         3 => addressed(narrow, |_| random.pick(&[[true, true], [true, false], [false, true], [false, false]])),
-        _ => merged_with_another(random, narrow, risen),
+        _ => merged_with_another(random, narrow),
     };
-    if random.chance(50) {
-        sent.iter_mut().for_each(|one| one.to.reverse());
+    let swapped = random.chance(50);
+    let any_levels = random.chance(60);
+    let mut recording = narrow.recording[..6].to_vec();
+    recording[0] = Two.number() << 4 | recording[0] & 15;
+    let mut last = 0;
+    for Sent { edge, record, to } in &sent {
+        let to = if swapped { [to[1], to[0]] } else { *to };
+        let wide =
+            Wide { cs: to.map(|own| !own || record.pins & DESELECTED != 0), step: edge - last, ..Wide::of(record) };
+        let (reset, odt) = if any_levels { (random.chance(50), random.chance(50)) } else { (true, false) };
+        recording.extend(Wide { reset, odt, ..wide }.write());
+        last = *edge;
     }
-    sent
+    let before = narrow.last_edge();
+    let end = if narrow.end >= before { narrow.end.max(last as u64) } else { narrow.end };
+    Case { edition: Two, recording, end, lent: 40 }
 }
 
 fn addressed(narrow: &Case, mut to: impl FnMut(&Record) -> [bool; 2]) -> Vec<Sent> {
@@ -73,9 +63,9 @@ fn header_of(narrow: &Case) -> Header {
 
 /// The other rank has a controller that makes no mistake while CKE is high. It sees the first one's changes of CKE, and now
 /// and then it is given the same command. Behind the last record it may go on alone.
-fn with_an_own_controller(random: &mut Random, narrow: &Case, risen: bool) -> Vec<Sent> {
+fn with_an_own_controller(random: &mut Random, narrow: &Case) -> Vec<Sent> {
     let temper = temper_for(random, 0);
-    let mut other = Controller::new(header_of(narrow), risen, temper, Random::new(random.next()));
+    let mut other = Controller::new(header_of(narrow), temper, Random::new(random.next()));
     let together = random.pick(&[0, 20, 60]);
     let mut sent = vec![];
     for Sent { edge, record, .. } in addressed(narrow, |_| [true, false]) {
@@ -107,10 +97,10 @@ fn on_its_own(other: &mut Controller, most: usize, until: i64) -> Vec<Sent> {
 
 /// A second recording under the same header, its records between those of the first. CKE is low where one of the two has
 /// it low; a record at the edge of another is left out, or goes to both if it is the same command.
-fn merged_with_another(random: &mut Random, narrow: &Case, risen: bool) -> Vec<Sent> {
+fn merged_with_another(random: &mut Random, narrow: &Case) -> Vec<Sent> {
     let rule = random.pick(&[0, 0, 4, 5, 7, 9, 12, 15, 20, 25, 31]);
     let length = random.between(10, 60) as usize;
-    let another = aimed_on(random, header_of(narrow), risen, rule, length, length / 2);
+    let another = aimed_on(random, header_of(narrow), rule, length, length / 2);
     let mut all = addressed(narrow, |_| [true, false]);
     all.extend(addressed(&another, |_| [false, true]));
     all.sort_by_key(|sent| sent.edge);

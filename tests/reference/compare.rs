@@ -6,7 +6,6 @@ use crate::harness::Harness;
 use crate::moving::Moved;
 use crate::ranks::Ranked;
 use crate::requests::call;
-use crate::resets::Resets;
 use crate::shrink::shrink;
 use crate::tally::{Tally, ENOUGH_FOR_ALL};
 use crate::text::hex;
@@ -66,7 +65,6 @@ struct Shown {
     tally: Tally,
     features: Features,
     ranked: Ranked,
-    resets: Resets,
     moved: Moved,
 }
 
@@ -75,10 +73,7 @@ impl Shown {
         self.tally.add(call, answer);
         match (call.function, answer) {
             (Judge, Ok(verdict)) => self.features.add(&call.data, call.numbers[0] as i64, verdict),
-            (Ranks, Ok(verdicts)) => {
-                self.ranked.add(&call.data, verdicts);
-                self.resets.add(&call.data, call.numbers[0] as i64, verdicts);
-            }
+            (Ranks, Ok(verdicts)) => self.ranked.add(&call.data, verdicts),
             (Widen | Narrow, _) => self.moved.add(call, answer),
             _ => {}
         }
@@ -86,8 +81,7 @@ impl Shown {
 
     /// Prints what came; the list of what never came.
     fn report(&self) -> Vec<String> {
-        let of_judging = [self.tally.report(), self.features.report(), self.ranked.report(), self.resets.report()];
-        [of_judging.concat(), self.moved.report()].concat()
+        [self.tally.report(), self.features.report(), self.ranked.report(), self.moved.report()].concat()
     }
 }
 

@@ -6,7 +6,6 @@ use crate::deadlines::{awake_at, debt_at, gap_deadline};
 use crate::header::Header;
 use crate::random::Random;
 use crate::recording::{asleep_after, cke_after, last_edge, Command, Command::*, Event, Record};
-use crate::reset::up_to_a_rise;
 use crate::rules::{banks_of_rule_5, fourth_act_back, latest_start, needed};
 
 /// What a controller likes to do.
@@ -28,7 +27,7 @@ pub struct Temper {
 pub const SPACINGS: &[u8] = &[4, 5, 6, 7, 8, 9, 10, 11, 12, 13, 14, 15, 16, 17, 18, 19, 20, 21, 22, 26, 27, 29, 30];
 
 /// No least spacing between two records is longer.
-const LONGEST_SPACING: i64 = 600;
+const LONGEST_SPACING: i64 = 512;
 
 /// Edges that closing all banks and a refresh can take, with the waits that may still run.
 pub const MARGIN: i64 = 700;
@@ -60,10 +59,8 @@ pub fn pins_of(command: Command) -> u8 {
 }
 
 impl Controller {
-    /// From the starting state of 01, or from the rise that ends a reset, at edge 0.
-    pub fn new(header: Header, risen: bool, temper: Temper, random: Random) -> Controller {
-        let past = if risen { up_to_a_rise() } else { vec![] };
-        Controller { header, past, section: vec![], temper, random, catching_up: false }
+    pub fn new(header: Header, temper: Temper, random: Random) -> Controller {
+        Controller { header, past: vec![], section: vec![], temper, random, catching_up: false }
     }
 
     pub fn now(&self) -> i64 {

@@ -6,13 +6,12 @@ use crate::naps::{change_too_soon, command_too_soon, entry_too_soon, ready_to_re
 use crate::random::Random;
 use crate::recording::{cke_after, registers_after, Command::*, Record};
 use crate::registers::{allowed, bad_bit, NAMED, NO_REGISTER};
-use crate::reset::place_in_order;
 use crate::rules::latest_start;
 use crate::settings::{allowed_code, with_longer_period};
 
 /// Sets up the rule's corner and issues the record that breaks it; None where there is none, or it cannot be set up now.
 pub fn corner(controller: &mut Controller, rule: u8) -> Option<()> {
-    if !cke_after(&controller.past) || place_in_order(&controller.past).is_some() {
+    if !cke_after(&controller.past) {
         return None;
     }
     match rule {

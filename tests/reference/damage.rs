@@ -81,7 +81,7 @@ fn with_field_changed(random: &mut Random, edition: Edition, record: &[u8]) -> V
         wide.cs[rank] = !wide.cs[rank];
         return wide.write().to_vec();
     }
-    let Record { cke, pins, ba, a, .. } = changed(random, wide.seen_by(rank).record);
+    let Record { cke, pins, ba, a, .. } = changed(random, wide.seen_by(rank));
     wide.cs[rank] = pins >> 3 == 1;
     Wide { cke, command: pins & 0b111, ba, a, ..wide }.write().to_vec()
 }

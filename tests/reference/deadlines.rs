@@ -3,7 +3,6 @@
 use crate::banks::precharge_start;
 use crate::header::Header;
 use crate::recording::{asleep_after, entry_of_stay, Command, Event};
-use crate::reset::clock_start;
 use crate::rules::Break;
 
 const LOWEST_DEBT: i64 = -8;
@@ -16,33 +15,21 @@ fn sleeps(past: &[Event]) -> Vec<(i64, Option<i64>)> {
     sres.map(|place| (past[place].edge, srx_after(place).map(|srx| srx.edge))).collect()
 }
 
-/// The awake clock counts edges from 1, after a reset from the one behind the rise, but not those after SRE up to and
-/// including SRX; in reset it stands at 0.
-struct Clock {
-    start: Option<i64>,
-    sleeps: Vec<(i64, Option<i64>)>,
-}
-
-impl Clock {
-    fn of(past: &[Event]) -> Clock {
-        Clock { start: clock_start(past), sleeps: sleeps(past) }
-    }
-
-    fn at(&self, edge: i64) -> i64 {
-        let asleep = |(sre, srx): &(i64, Option<i64>)| (srx.unwrap_or(edge).min(edge) - sre).max(0);
-        self.start.map_or(0, |start| edge - start - self.sleeps.iter().map(asleep).sum::<i64>())
-    }
+/// The awake clock counts edges from 1, but not those after SRE up to and including SRX.
+fn awake(sleeps: &[(i64, Option<i64>)], edge: i64) -> i64 {
+    let asleep = |(sre, srx): &(i64, Option<i64>)| (srx.unwrap_or(edge).min(edge) - sre).max(0);
+    edge - sleeps.iter().map(asleep).sum::<i64>()
 }
 
 pub fn awake_at(past: &[Event], edge: i64) -> i64 {
-    Clock::of(past).at(edge)
+    awake(&sleeps(past), edge)
 }
 
 /// Debt starts at 0, rises by 1 at each positive multiple of tREFI's clocks on the awake clock,
 /// then falls by 1 at a REF, never below -8.
 pub fn debt_at(header: &Header, past: &[Event], edge: i64) -> i64 {
-    let clock = Clock::of(past);
-    let multiples_to = |edge: i64| clock.at(edge) / header.t_refi();
+    let sleeps = sleeps(past);
+    let multiples_to = |edge: i64| awake(&sleeps, edge) / header.t_refi();
     let (mut debt, mut counted) = (0, 0);
     for event in past.iter().filter(|event| event.command == Command::Ref && event.edge <= edge) {
         let multiples = multiples_to(event.edge);
@@ -86,15 +73,15 @@ fn broken_by_stay(header: &Header, past: &[Event], edge: i64) -> Option<Break> {
     Some(Break { rule: 28, record: 0, partner: entry.number, edge, needed: limit, found: limit + 1 })
 }
 
-/// The edges that the awake clock has counted up to this edge since the last REF before it, or since its start; and that REF.
+/// The edges that the awake clock has counted up to this edge since the last REF before it, or since edge 0; and that REF.
 /// A REF at the edge itself is not before it.
 pub fn since_ref(past: &[Event], edge: i64) -> (i64, Option<&Event>) {
     let last_ref = past.iter().rfind(|event| event.command == Command::Ref && event.edge < edge);
-    let clock = Clock::of(past);
-    (clock.at(edge) - last_ref.map_or(0, |event| clock.at(event.edge)), last_ref)
+    let from = last_ref.map_or(0, |event| event.edge);
+    (awake_at(past, edge) - awake_at(past, from), last_ref)
 }
 
-/// 31 the distance between neighbouring REFs at most nine times tREFI's clocks, counted on the awake clock from its start or
+/// 31 the distance between neighbouring REFs at most nine times tREFI's clocks, counted on the awake clock from edge 0 or
 /// the last REF; broken one edge past it. Partner: the last REF or none.
 fn broken_by_gap(header: &Header, past: &[Event], edge: i64) -> Option<Break> {
     let limit = header.greatest_gap();

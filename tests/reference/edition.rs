@@ -1,6 +1,6 @@
 //! The two editions of a recording: how many bytes a record has, and what each rank sees of a record of edition 2.
 
-use crate::recording::{read_records, Record};
+use crate::recording::Record;
 
 #[derive(Clone, Copy, Debug, PartialEq, Eq)]
 pub enum Edition {
@@ -49,20 +49,13 @@ impl Edition {
         self == Two && self.records(section).any(|eight| Wide::read(eight).zeros != 0)
     }
 
-    /// The section's records as this rank sees them.
-    pub fn seen_by(self, section: &[u8], rank: usize) -> Vec<Seen> {
+    /// The section as this rank sees it, in records of edition 1.
+    pub fn seen_by(self, section: &[u8], rank: usize) -> Vec<u8> {
         match self {
-            One => read_records(section).map(|record| Seen { reset: true, record }).collect(),
-            Two => self.records(section).map(|eight| Wide::read(eight).seen_by(rank)).collect(),
+            One => section.to_vec(),
+            Two => self.records(section).flat_map(|eight| Wide::read(eight).seen_by(rank).write()).collect(),
         }
     }
-}
-
-/// What a rank sees of a record; edition 1 has no RESET, and there it is high.
-#[derive(Clone, Copy, Debug)]
-pub struct Seen {
-    pub reset: bool,
-    pub record: Record,
 }
 
 /// The edition that the first four bits name, if it is one.
@@ -126,10 +119,10 @@ impl Wide {
         all.to_be_bytes()
     }
 
-    /// Its own CS, and what the ranks share. ODT is not judged.
-    pub fn seen_by(&self, rank: usize) -> Seen {
+    /// Its own CS, and what the ranks share. RESET and ODT are not judged.
+    pub fn seen_by(&self, rank: usize) -> Record {
         let pins = (self.cs[rank] as u8) << 3 | self.command;
-        Seen { reset: self.reset, record: Record { step: self.step, cke: self.cke, pins, ba: self.ba, a: self.a } }
+        Record { step: self.step, cke: self.cke, pins, ba: self.ba, a: self.a }
     }
 
     /// Old to new: RESET 1, the second CS 1, ODT 0, zeros.

@@ -187,7 +187,7 @@ fn number(bytes: &[u8]) -> i64 {
     bytes.iter().fold(0, |number, byte| number << 8 | *byte as i64)
 }
 
-pub fn break_of(verdict: &[u8]) -> Break {
+fn break_of(verdict: &[u8]) -> Break {
     Break {
         rule: verdict[1],
         record: number(&verdict[2..5]) as usize,

@@ -8,8 +8,7 @@ use crate::header::Header;
 use crate::random::Random;
 use crate::recording::GREATEST_END;
 use crate::settings::{header_bytes, header_for_rule, random_header};
-use crate::slips::{bring_about, slip};
-use crate::stretches::with_resets;
+use crate::slips::slip;
 use crate::tally::NEVER_TOLD;
 
 /// ACT, RD, WR, PRE, REF, MRS, ZQ, SRE, NOP, PDE.
@@ -25,9 +24,6 @@ const NAPPER: [u64; 10] = [15, 15, 15, 8, 3, 4, 1, 3, 3, 35];
 /// One recording in this many is over the limit or just at it: its line has twelve million digits.
 const OVER_THE_LIMIT_EVERY: u64 = 250;
 const LONG_EVERY: u64 = 1000;
-
-/// So many percent of the recordings of edition 2 have resets made on purpose.
-const WITH_RESETS: u64 = 45;
 
 /// Refusals that hold beside 7, in turn; 0 is 7 alone.
 const BESIDE_THE_LIMIT: [&[u32]; 2] =
@@ -86,16 +82,11 @@ fn in_edition(random: &mut Random, edition: Edition, narrow: Case) -> Case {
 }
 
 fn any_aimed(random: &mut Random, edition: Edition) -> Case {
-    if edition == Two && random.chance(WITH_RESETS) {
-        let lent = enough(random, Two);
-        return Case { lent, ..with_resets(random) };
-    }
     let narrow = aimed_at_some_rule(random);
     in_edition(random, edition, narrow)
 }
 
-/// 0 for none.
-pub fn some_rule(random: &mut Random) -> u8 {
+fn aimed_at_some_rule(random: &mut Random) -> Case {
     let mut weights = [2; 32];
     weights[0] = 16;
     weights[NEVER_TOLD as usize] = 0;
@@ -105,11 +96,7 @@ pub fn some_rule(random: &mut Random) -> u8 {
     weights[3] = 6;
     weights[19] = 8;
     weights[31] = 6;
-    random.weighted(&weights) as u8
-}
-
-fn aimed_at_some_rule(random: &mut Random) -> Case {
-    let rule = some_rule(random);
+    let rule = random.weighted(&weights) as u8;
     let (least, greatest) = random.pick(&[(20, 50), (20, 50), (20, 50), (20, 50), (30, 100), (20, 200)]);
     let length = random.between(least, greatest);
     let slip_after = if rule == 3 { random.between(0, 30) } else { random.between(3, length) };
@@ -149,19 +136,17 @@ pub fn temper_for(random: &mut Random, rule: u8) -> Temper {
 /// A clean recording (rule 0), or one in which some record breaks the rule and a few more follow.
 pub fn aimed(random: &mut Random, rule: u8, length: usize, slip_after: usize) -> Case {
     let header = header_for_rule(random, rule);
-    aimed_on(random, header, false, rule, length, slip_after)
+    aimed_on(random, header, rule, length, slip_after)
 }
 
-/// The same under this header; risen: from the rise that ends a reset, at edge 0.
-pub fn aimed_on(random: &mut Random, header: Header, risen: bool, rule: u8, length: usize, slip_after: usize) -> Case {
+pub fn aimed_on(random: &mut Random, header: Header, rule: u8, length: usize, slip_after: usize) -> Case {
     let temper = temper_for(random, rule);
-    let mut controller = Controller::new(header, risen, temper, Random::new(random.next()));
-    let begun = controller.past.len();
+    let mut controller = Controller::new(header, temper, Random::new(random.next()));
     let mut left = length + 40 * (rule != 0) as usize;
     let mut slipped = rule == 0;
     while left > 0 {
         left -= 1;
-        if !slipped && controller.past.len() >= begun + slip_after {
+        if !slipped && controller.past.len() >= slip_after {
             slipped = slip(&mut controller, rule);
             if slipped {
                 left = random.below(8) as usize;
@@ -175,22 +160,6 @@ pub fn aimed_on(random: &mut Random, header: Header, risen: bool, rule: u8, leng
     let end = end_for(random, &controller);
     let lent = enough(random, One);
     Case { edition: One, recording: [&header_bytes(&header)[..], &controller.section].concat(), end, lent }
-}
-
-/// A clean recording whose end is around the edge at which this deadline would be broken, if it can be brought about.
-pub fn up_to_a_deadline(random: &mut Random, header: Header, risen: bool, rule: u8) -> Case {
-    let temper = temper_for(random, rule);
-    let mut controller = Controller::new(header, risen, temper, Random::new(random.next()));
-    let length = random.between(6, 15);
-    for _ in 0..length {
-        let record = controller.choose();
-        let edge = controller.comfortable_edge(&record);
-        controller.issue(record, edge);
-    }
-    bring_about(&mut controller, rule);
-    let deadline = controller.deadline().map_or(0, |(edge, _)| edge);
-    let end = (deadline + random.between(-1, 1)).max(controller.now()) as u64;
-    Case { edition: One, recording: [&header_bytes(&header)[..], &controller.section].concat(), end, lent: 20 }
 }
 
 /// The last record's edge, later, at the next deadline, much later, too early, 2^44, above it.

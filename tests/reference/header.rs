@@ -147,11 +147,6 @@ impl Header {
         self.least(320_000).max(256)
     }
 
-    /// Of the first ZQ after power-up.
-    pub fn zq_first(&self) -> i64 {
-        self.least(640_000).max(512)
-    }
-
     pub fn zq_short(&self) -> i64 {
         self.least(80_000).max(64)
     }

@@ -15,7 +15,7 @@ fn moved(from: Edition, recording: &[u8]) -> Vec<u8> {
     for record in from.records(section) {
         match from {
             One => bytes.extend(Wide::of(&Record::read(record)).write()),
-            Two => bytes.extend(Wide::read(record).seen_by(0).record.write()),
+            Two => bytes.extend(Wide::read(record).seen_by(0).write()),
         }
     }
     bytes

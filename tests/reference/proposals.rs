@@ -3,7 +3,6 @@
 use crate::banks::Bank;
 use crate::controller::{Controller, MARGIN};
 use crate::recording::{cke_after, registers_after, Command, Command::*, Record};
-use crate::reset::place_in_order;
 use crate::settings::{allowed_code, mr0_code};
 
 /// In the order of a temper's weights.
@@ -14,9 +13,6 @@ impl Controller {
     pub fn choose(&mut self) -> Record {
         if !cke_after(&self.past) {
             return self.while_low();
-        }
-        if let Some(place) = place_in_order(&self.past) {
-            return self.next_in_order(place);
         }
         if self.must_refresh() {
             return self.with_all_idle(Ref);
@@ -34,25 +30,6 @@ impl Controller {
             Nop => self.nothing(),
             Pde => self.power_down(),
             command => self.with_all_idle(command),
-        }
-    }
-
-    /// What comes next after a reset; a power-down in between is no command.
-    fn next_in_order(&mut self, place: usize) -> Record {
-        let at_the_rise = self.past.last().is_some_and(|event| event.command == Rise);
-        match self.random.below(20) {
-            0 => self.nothing(),
-            1 => self.power_down(),
-            2 | 3 if at_the_rise => self.power_down(),
-            _ if place == 4 => self.record(Zq, 0, true),
-            _ => {
-                let number = [2, 3, 1, 0][place];
-                let code = match number {
-                    0 => mr0_code(&mut self.random, &self.header, true),
-                    _ => allowed_code(&mut self.random, &self.header, number),
-                };
-                Record { a: code, ..self.record(Mrs, number, false) }
-            }
         }
     }
 

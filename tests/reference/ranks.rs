@@ -4,7 +4,7 @@ use crate::banks::{bank_at, Bank};
 use crate::edition::{Edition::*, Wide};
 use crate::features::told;
 use crate::header::Header;
-use crate::recording::{read_recording, registers_after, Command, Command::*, Event};
+use crate::recording::{read_recording, read_records, registers_after, Command, Command::*, Event};
 use std::collections::BTreeMap;
 
 /// Longer ones are about the limit of records and show nothing else.
@@ -161,9 +161,10 @@ impl Ranked {
         let mut pasts: Pasts = [vec![], vec![]];
         let mut names = vec![];
         let seen = [0, 1].map(|rank| Two.seen_by(section, rank));
-        for (place, eight) in Two.records(section).enumerate() {
-            for rank in [0, 1] {
-                let event = Event::seen(&pasts[rank], &seen[rank][place]);
+        let records = read_records(&seen[0]).zip(read_records(&seen[1]));
+        for ((first, second), eight) in records.zip(Two.records(section)) {
+            for (rank, record) in [(0, first), (1, second)] {
+                let event = Event::after(&pasts[rank], &record);
                 pasts[rank].push(event);
             }
             let now = pasts[0].last().map_or(0, |event| event.edge);

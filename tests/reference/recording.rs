@@ -1,10 +1,9 @@
 //! A recording's bytes as records, and a record with its past as an event.
 
 use crate::banks::none_open;
-use crate::edition::{named_by, step, Edition, Seen, BOTH};
+use crate::edition::{named_by, step, Edition, BOTH};
 use crate::header::{read_header_of, Header};
 use crate::registers::Registers;
-use crate::reset::{command_around_reset, in_reset, is_first_zq, since_reset};
 
 pub const MOST_RECORDS: usize = 1_048_576;
 pub const GREATEST_END: u64 = 1 << 44;
@@ -59,10 +58,6 @@ pub enum Command {
     Pdx,
     /// CKE staying low: pins ignored.
     Low,
-    /// In reset: pins ignored.
-    Dark,
-    /// The rise of CKE that ends a reset.
-    Rise,
     /// Any other CKE change: rule 1.
     Forbidden,
 }
@@ -122,44 +117,32 @@ fn is_slow_exit(past: &[Event], registers: &Registers, command: Command) -> bool
     command == Command::Pdx && a12_low && entry().is_some_and(|place| none_open(&past[..place]))
 }
 
-/// A record with what its past says of it: its number and edge, its command, the registers in force at it, whether it is an
-/// exit that rule 30 counts from, and whether it is the first ZQ after power-up.
+/// A record with what its past says of it: its number and edge, its command,
+/// the registers in force at it, and whether it is an exit that rule 30 counts from.
 #[derive(Clone, Copy, Debug)]
 pub struct Event {
     pub number: usize,
     pub edge: i64,
     pub command: Command,
-    pub reset: bool,
     pub cke: bool,
     pub bank: u8,
     pub a: u16,
     pub registers: Registers,
     pub slow_exit: bool,
-    pub first_zq: bool,
 }
 
 impl Event {
-    /// A record with RESET high.
     pub fn after(past: &[Event], record: &Record) -> Event {
-        Event::seen(past, &Seen { reset: true, record: *record })
-    }
-
-    pub fn seen(past: &[Event], seen: &Seen) -> Event {
-        let (past, record) = (since_reset(past), &seen.record);
-        let judged = seen.reset && !in_reset(past);
-        let command = if judged { command_of(past, record) } else { command_around_reset(past, seen) };
-        let registers = registers_after(past);
+        let (command, registers) = (command_of(past, record), registers_after(past));
         Event {
-            number: past.last().map_or(1, |event| event.number + 1),
+            number: past.len() + 1,
             edge: last_edge(past) + record.step,
             command,
-            reset: seen.reset,
             cke: record.cke,
             bank: record.ba,
             a: record.a,
             registers,
             slow_exit: is_slow_exit(past, &registers, command),
-            first_zq: is_first_zq(past, command),
         }
     }
 
@@ -171,16 +154,15 @@ impl Event {
         self.a >> 12 & 1 == 1
     }
 
-    /// "Command" excludes NOP, DES, SRX, power-down's entry and exit and the rise that ends a reset; with CKE staying low and
-    /// in reset none is given.
+    /// "Command" excludes NOP, DES, SRX and power-down's entry and exit; with CKE staying low none is given.
     pub fn is_command(&self) -> bool {
-        !matches!(self.command, Command::Nop | Command::Des | Command::Low | Command::Dark)
+        !matches!(self.command, Command::Nop | Command::Des | Command::Low)
             && (!self.changes_cke() || self.command == Command::Sre)
     }
 
     /// A change of CKE that rule 1 allows.
     pub fn changes_cke(&self) -> bool {
-        matches!(self.command, Command::Sre | Command::Srx | Command::Pde | Command::Pdx | Command::Rise)
+        matches!(self.command, Command::Sre | Command::Srx | Command::Pde | Command::Pdx)
     }
 }
 

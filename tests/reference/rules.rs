@@ -1,11 +1,10 @@
-//! Rules 1 to 32 but for the deadlines: whether the last record of a past breaks a rule.
+//! Rules 1 to 31 but for the deadlines: whether the last record of a past breaks a rule.
 //! Each rule looks back over all earlier records; the paper's sentence stands beside it.
 
 use crate::banks::{bank_at, covers, precharge_start, Bank};
 use crate::header::{Header, T_MRD};
 use crate::recording::{Command, Command::*, Event};
 use crate::registers::{bad_bit, is_dll_reset};
-use crate::reset::out_of_turn;
 
 #[derive(Clone, Copy, Debug, PartialEq, Default)]
 pub struct Break {
@@ -30,7 +29,6 @@ pub fn broken_by_record(header: &Header, past: &[Event], rule: u8) -> Option<Bre
         5 => too_soon_after_precharge(header, past).map(with_clocks),
         8 => too_soon_after_fourth_act(header, last, earlier).map(with_clocks),
         23 => self_refresh_without_ref(last, earlier).map(without_clocks),
-        32 => out_of_turn(last, earlier).then_some(at_last),
         _ => too_soon(header, last, earlier, rule).map(with_clocks),
     }
 }
@@ -93,11 +91,11 @@ pub fn needed(header: &Header, rule: u8, earlier: &Event, later: &Event) -> Opti
         (15, Ref, _) if later.is_command() => Some(header.t_rfc()),
         (16, Mrs, Mrs) => Some(T_MRD),
         (17, Mrs, _) if later.is_command() && later.command != Mrs => Some(header.t_mod()),
-        (18, Zq, _) if later.is_command() => Some(zq_time(header, earlier)),
+        (18, Zq, _) if later.is_command() => Some(if earlier.a10() { header.zq_long() } else { header.zq_short() }),
         (19, Rd, Mrs | Sre) => Some(registers.rl() + registers.b(earlier.a12())),
         (20, Mrs, Rd) if resets_dll(earlier) => Some(512),
         (20, Srx, Rd) => Some(512),
-        (21, Srx | Rise, _) if later.is_command() => Some(header.t_xs()),
+        (21, Srx, _) if later.is_command() => Some(header.t_xs()),
         (22, Sre, Srx) => Some(header.t_cke() + 1),
         (26, Rd, Pde) => Some(registers.rl() + 5),
         (26, Wr, Pde) if earlier.a10() => Some(registers.wl() + registers.h() + registers.programmed_wr() + 1),
@@ -108,14 +106,6 @@ pub fn needed(header: &Header, rule: u8, earlier: &Event, later: &Event) -> Opti
         (29, Pdx, _) if later.is_command() => Some(header.t_xp()),
         (30, Pdx, Rd) if earlier.slow_exit => Some(header.t_xpdll()),
         _ => None,
-    }
-}
-
-fn zq_time(header: &Header, zq: &Event) -> i64 {
-    match (zq.first_zq, zq.a10()) {
-        (true, _) => header.zq_first(),
-        (false, true) => header.zq_long(),
-        (false, false) => header.zq_short(),
     }
 }
 

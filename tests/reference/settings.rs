@@ -11,10 +11,10 @@ const PERIOD_BORDERS: [i64; 8] = [1070, 1250, 1500, 1641, 1875, 2500, 3000, 3300
 pub const CODE_BORDERS: [i64; 9] = [1250, 1249, 1500, 1499, 1875, 1874, 2500, 2499, 2999];
 
 /// Times whose clock counts change where the period divides them.
-const TIMES: [i64; 32] = [
+const TIMES: [i64; 31] = [
     13125, 12840, 50625, 49500, 48750, 47080, 37500, 36000, 35000, 34240, 7500, 10000, 6000, 5000, 50000, 45000, 40000,
     30000, 27000, 15000, 5625, 110_000, 160_000, 120_000, 170_000, 320_000, 80_000, 70_000_000, 7_800_000, 3_900_000,
-    24_000, 640_000,
+    24_000,
 ];
 
 /// A period at which the clock count of some time changes, or one more.
@@ -70,7 +70,7 @@ fn times_of_rule(header: &Header, rule: u8) -> Vec<i64> {
         10 | 14 => vec![7500],
         11 | 17 => vec![15000],
         15 => vec![refresh],
-        18 => vec![320_000, 80_000, 640_000],
+        18 => vec![320_000, 80_000],
         21 => vec![refresh + 10_000],
         22 | 27 => vec![bin.t_cke],
         26 => vec![15000],

@@ -6,7 +6,6 @@ use crate::gaps::{keep_open, run_ahead};
 use crate::header::least_period;
 use crate::random::Random;
 use crate::recording::{cke_after, Command::*, Event, Record};
-use crate::reset::place_in_order;
 use crate::rules::latest_start;
 use crate::settings::{allowed_code, random_header, with_another_latency};
 use crate::verdict::broken_at;
@@ -28,7 +27,7 @@ pub fn slip(controller: &mut Controller, rule: u8) -> bool {
             return around_start(controller, bank);
         }
     }
-    let tries = if rule <= 3 || rule == 32 { 30 } else { 1 };
+    let tries = if rule <= 3 { 30 } else { 1 };
     for _ in 0..tries {
         let Some((record, edge)) = proposal(controller, rule) else { break };
         if DEADLINES.contains(&rule) || would_break(controller, &record, edge) == Some(rule) {
@@ -36,27 +35,8 @@ pub fn slip(controller: &mut Controller, rule: u8) -> bool {
             return true;
         }
     }
-    let record = chosen_or_out_of_turn(controller, rule);
+    let record = controller.choose();
     too_soon_for(controller, record, rule)
-}
-
-/// Within the order after a reset: power-down for its rules, and now and then a command that is out of turn, if it can come
-/// too soon for the rule.
-fn chosen_or_out_of_turn(controller: &mut Controller, rule: u8) -> Record {
-    if place_in_order(&controller.past).is_none() || !cke_after(&controller.past) {
-        return controller.choose();
-    }
-    let after_exit = controller.past.last().is_some_and(|event| event.command == Pdx);
-    if rule == 26 || rule == 27 || rule == 29 && !after_exit {
-        return controller.power_down();
-    }
-    let (record, _) = out_of_turn(controller);
-    let edges = controller.least_edges(&record);
-    let soon = edges.get(rule as usize).is_some_and(|edge| *edge > controller.now() + 1);
-    if (soon || DEADLINES.contains(&rule)) && controller.random.chance(50) {
-        return record;
-    }
-    controller.choose()
 }
 
 pub fn would_break(controller: &Controller, record: &Record, edge: i64) -> Option<u8> {
@@ -86,7 +66,6 @@ fn proposal(controller: &mut Controller, rule: u8) -> Option<(Record, i64)> {
         1..=3 => Some(any_record(controller)),
         23 => Some(self_refresh(controller)),
         24 | 25 | 31 => at_deadline(controller, rule),
-        32 => Some(out_of_turn(controller)),
         _ => None,
     }
 }
@@ -130,25 +109,6 @@ fn self_refresh(controller: &mut Controller) -> (Record, i64) {
     (record, controller.least_edge(&record) + later)
 }
 
-/// A command after a reset, whichever place of the order it fits.
-fn out_of_turn(controller: &mut Controller) -> (Record, i64) {
-    let random = &mut controller.random;
-    let (command, bank, bit) =
-        (random.pick(&[Mrs, Mrs, Mrs, Zq, Zq, Ref, Sre, Pre, Act]), random.pick(&[0, 0, 1, 2, 3]), random.chance(50));
-    let record = match command {
-        Mrs => {
-            let code = allowed_code(random, &controller.header, bank);
-            Record { a: code, ..controller.record(Mrs, bank, false) }
-        }
-        _ => controller.record(command, bank, bit),
-    };
-    let later = controller.random.pick(&[0, 0, 0, 1, 40]);
-    let due = controller.deadline().map_or(0, |(deadline, _)| deadline);
-    let least = controller.least_edge(&record) + later;
-    let at_the_deadline = controller.random.chance(10);
-    (record, if at_the_deadline { least.max(due) } else { least })
-}
-
 /// A record at the edge where the deadline breaks, or after it.
 fn at_deadline(controller: &mut Controller, rule: u8) -> Option<(Record, i64)> {
     if controller.deadline()?.1 != rule {
@@ -160,15 +120,15 @@ fn at_deadline(controller: &mut Controller, rule: u8) -> Option<(Record, i64)> {
         2 if rule == 24 => return late_precharge(controller, deadline),
         _ => {}
     }
-    let record = chosen_or_out_of_turn(controller, rule);
+    let record = controller.choose();
     let far = controller.random.between(1, 100_000);
     let later = controller.random.pick(&[0, 0, 0, 1, 1, far]);
     Some((record, (deadline + later).max(controller.now() + 1)))
 }
 
 /// Makes the rule's deadline the next one, if its records can come now.
-pub fn bring_about(controller: &mut Controller, rule: u8) -> Option<()> {
-    if !cke_after(&controller.past) || place_in_order(&controller.past).is_some() {
+fn bring_about(controller: &mut Controller, rule: u8) -> Option<()> {
+    if !cke_after(&controller.past) {
         return None;
     }
     match rule {

@@ -62,9 +62,8 @@ fn of_rank(rank: usize, name: String) -> String {
     format!("rank {rank} {name}")
 }
 
-/// Rules up to the highest that an edition has.
-fn verdict_names(highest: u8) -> impl Iterator<Item = String> {
-    let rules = (1..=highest).filter(|rule| *rule != NEVER_TOLD);
+fn verdict_names() -> impl Iterator<Item = String> {
+    let rules = (1..=31).filter(|rule| *rule != NEVER_TOLD);
     std::iter::once("clean".to_string()).chain(rules.map(|rule| format!("rule {rule}")))
 }
 
@@ -72,8 +71,8 @@ fn verdict_names(highest: u8) -> impl Iterator<Item = String> {
 fn all_names(function: Function, checks: &[u32]) -> Vec<String> {
     let refusals = checks.iter().filter(|refusal| **refusal != 11).map(|refusal| format!("refused {refusal}"));
     let taken: Vec<String> = match function {
-        Judge => verdict_names(31).collect(),
-        Ranks => [1, 2].into_iter().flat_map(|rank| verdict_names(32).map(move |name| of_rank(rank, name))).collect(),
+        Judge => verdict_names().collect(),
+        Ranks => [1, 2].into_iter().flat_map(|rank| verdict_names().map(move |name| of_rank(rank, name))).collect(),
         Widen | Narrow => vec!["moved".to_string()],
         Register => {
             let bits = all_bit_names().map(|name| format!("refused 11, {name}"));

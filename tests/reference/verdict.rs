@@ -2,11 +2,12 @@
 
 use crate::banks::{bank_at, Bank};
 use crate::deadlines::{broken_by_deadline, debt_at, edges_to_examine};
-use crate::edition::{room, Seen};
+use crate::edition::{room, Edition};
 use crate::header::Header;
-use crate::recording::{last_edge, open, read_recording, registers_after, section_refusal, Event, GREATEST_END};
+use crate::recording::{
+    last_edge, open, read_recording, read_records, registers_after, section_refusal, Event, GREATEST_END,
+};
 use crate::registers::Registers;
-use crate::reset::{in_reset, since_reset};
 use crate::rules::{broken_by_record, Break};
 use crate::waits::waits;
 
@@ -24,11 +25,9 @@ pub struct Closing {
     pub debt: i64,
 }
 
-/// What is broken at this edge, the lowest rule first; the past holds the records up to it. In reset nothing is.
+/// What is broken at this edge, the lowest rule first; the past holds the records up to it.
 pub fn broken_at(header: &Header, past: &[Event], edge: i64) -> Option<Break> {
-    let past = since_reset(past);
-    let rules = if in_reset(past) { 0..0 } else { 1..33 };
-    rules.into_iter().find_map(|rule| match rule {
+    (1..=31).find_map(|rule| match rule {
         24 | 25 | 28 | 31 => broken_by_deadline(header, past, edge, rule),
         _ if last_edge(past) == edge => broken_by_record(header, past, rule),
         _ => None,
@@ -37,19 +36,17 @@ pub fn broken_at(header: &Header, past: &[Event], edge: i64) -> Option<Break> {
 
 /// The first break after the last record and up to the given edge.
 fn broken_in_gap(header: &Header, past: &[Event], until: i64) -> Option<Break> {
-    let edges = edges_to_examine(header, since_reset(past), last_edge(past), until);
+    let edges = edges_to_examine(header, past, last_edge(past), until);
     edges.into_iter().find_map(|edge| broken_at(header, past, edge))
 }
 
-/// The first break up to the end, and the records up to it (all of them when there is none). Before the first record RESET
-/// has its level.
-fn first_break(header: &Header, records: &[Seen], end: i64) -> (Option<Break>, Vec<Event>) {
+/// The first break up to the end, and the records up to it (all of them when there is none).
+fn first_break(header: &Header, section: &[u8], end: i64) -> (Option<Break>, Vec<Event>) {
     let mut past = Vec::new();
-    for seen in records {
-        let event = Event::seen(&past, seen);
-        let low_from_the_start = past.is_empty() && !seen.reset;
+    for record in read_records(section) {
+        let event = Event::after(&past, &record);
         let in_gap = broken_in_gap(header, &past, event.edge - 1);
-        if in_gap.is_some() && !low_from_the_start {
+        if in_gap.is_some() {
             return (in_gap, past);
         }
         past.push(event);
@@ -62,28 +59,26 @@ fn first_break(header: &Header, records: &[Seen], end: i64) -> (Option<Break>, V
 }
 
 /// The first break, the last edge before it (else the end), and the records up to that edge.
-fn standing(header: &Header, records: &[Seen], end: i64) -> (Option<Break>, i64, Vec<Event>) {
-    let (broken, mut past) = first_break(header, records, end);
+fn standing(header: &Header, section: &[u8], end: i64) -> (Option<Break>, i64, Vec<Event>) {
+    let (broken, mut past) = first_break(header, section, end);
     let edge = broken.map_or(end, |broken| broken.edge - 1);
     past.retain(|event| event.edge <= edge);
     (broken, edge, past)
 }
 
 /// The waiting times after a section's records; once broken they stay as they were just before the broken edge.
-pub fn waits_after(header: &Header, records: &[Seen]) -> Vec<i64> {
-    let last = records.iter().map(|seen| seen.record.step).sum();
-    waits(header, since_reset(&standing(header, records, last).2))
+pub fn waits_after(header: &Header, section: &[u8]) -> Vec<i64> {
+    waits(header, &standing(header, section, Edition::One.last_edge(section)).2)
 }
 
 /// Once broken, banks, registers and debt stay as they were just before the broken edge.
-fn close(header: &Header, records: &[Seen], end: i64) -> Closing {
-    let (broken, edge, past) = standing(header, records, end);
-    let counting = since_reset(&past);
+fn close(header: &Header, section: &[u8], end: i64) -> Closing {
+    let (broken, edge, past) = standing(header, section, end);
     Closing {
-        verdict: broken.map_or(Verdict::Clean { records: records.len(), end }, Verdict::Broken),
-        banks: (0..8).map(|bank| bank_at(header, counting, bank, edge)).collect(),
-        registers: registers_after(counting),
-        debt: debt_at(header, counting, edge),
+        verdict: broken.map_or(Verdict::Clean { records: section.len() / 6, end }, Verdict::Broken),
+        banks: (0..8).map(|bank| bank_at(header, &past, bank, edge)).collect(),
+        registers: registers_after(&past),
+        debt: debt_at(header, &past, edge),
     }
 }
 

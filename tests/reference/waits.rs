@@ -14,18 +14,7 @@ pub fn waits(header: &Header, past: &[Event]) -> Vec<i64> {
 
 /// The command, with no A10, as the next record; the rules do not look at the rest of it.
 fn next(command: Command, bank: u8) -> Event {
-    Event {
-        number: 0,
-        edge: 0,
-        command,
-        reset: true,
-        cke: true,
-        bank,
-        a: 0,
-        registers: Registers([None; 4]),
-        slow_exit: false,
-        first_zq: false,
-    }
+    Event { number: 0, edge: 0, command, cke: true, bank, a: 0, registers: Registers([None; 4]), slow_exit: false }
 }
 
 /// The latest edge that a record asks for; 0 if none does.

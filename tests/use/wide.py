@@ -19,36 +19,6 @@ RANK = {'1': 'first rank', '2': 'second rank'}
 # The SRE of the first rank is a power-down entry of the second; a PRE to both comes too soon behind the exit for both, by two rules.
 APART = bytes.fromhex('2405dc000000' + '0000019100000000' + '000005f700000000' + '000003c200000000')
 
-# From power-up: RESET low, high, CKE's rise at edge 3; MR2 at 83, MR3, MR1, MR0, ZQ long at 107, an ACT of the first rank at 619.
-LOW, RAISED, RISE = '0000013700000000', '000001b700000000', '000001f700000000'
-ORDER = ['000050c040020000', '000004c060000000', '000004c020000000', '000004c0016a0000', '00000cc600800000']
-ACT = '000200d360246000'
-UP = [LOW, RAISED, RISE, *ORDER, ACT]
-
-
-def without(change, at):
-    """The recording from power-up, with another record in a place."""
-    return bytes.fromhex('2405dc000000' + ''.join(UP[:at] + [change] + UP[at + 1:]))
-
-
-# What is said of each rank in one line; the records that are counted as in reset, and as a rise.
-POWERED = [
-    ('kept', without(ACT, 8), ['r.rec: first rank: clean, 9 records up to edge 619', 'r.rec: second rank: clean, 9 records up to edge 619'], (2, 1)),
-    ('tXS', without('00004fc040020000', 3), [f'r.rec:0x1e: {rank}: rule 21 (tXS): MRS of MR2 at edge 82, 79 clocks after the rise of CKE that ends a reset (r.rec:0x16), needs 80'
-                                             for rank in RANK.values()], (2, 1)),
-    ('turn', without('000004c020000000', 4), [f'r.rec:0x26: {rank}: rule 32 (order after power-up): MRS of MR1 at edge 87: out of turn after power-up, an MRS of MR3 is due'
-                                              for rank in RANK.values()], (2, 1)),
-    ('reset of the DLL', without('000004c0014a0000', 6), [f'r.rec:0x36: {rank}: rule 32 (order after power-up): MRS of MR0 at edge 95: out of turn after power-up, an MRS of MR0 with DLL reset is due'
-                                                          for rank in RANK.values()], (2, 1)),
-    ('ZQ', without('00000cc600000000', 7), [f'r.rec:0x3e: {rank}: rule 32 (order after power-up): ZQCS at edge 107: out of turn after power-up, a long ZQ is due'
-                                            for rank in RANK.values()], (2, 1)),
-    ('first ZQ', without('0001ffd360246000', 8), ['r.rec:0x46: first rank: rule 18 (ZQ time): ACT bank 3 at edge 618, 511 clocks after ZQCL (r.rec:0x3e), needs 512',
-                                                  'r.rec: second rank: clean, 9 records up to edge 618'], (2, 1)),
-    ('rise', without('000001d100000000', 2), ['r.rec:0x16: first rank: rule 1 (CKE change): CKE from 0 to 1, which ends a reset, with pins 0001 at edge 3',
-                                              'r.rec: second rank: clean, 9 records up to edge 619'], (2, 1)),
-    ('no rise', without('000001f700000000', 1), ['r.rec: first rank: clean, 9 records up to edge 619', 'r.rec: second rank: clean, 9 records up to edge 619'], (9, 0)),
-]
-
 
 def widened(recording, to=FIRST, reset=1, odt=0):
     """In edition 2, to one rank or to both."""
@@ -65,8 +35,7 @@ def widened(recording, to=FIRST, reset=1, odt=0):
 def judged(check, run, folder):
     """The two lines, the status of the worse, several files, and refusals."""
     for what, recording, lines, status in ('first', widened(P8), BROKEN + SAME, 1), ('second', widened(P8, SECOND), SAME + BROKEN, 1), \
-            ('both', widened(P8, BOTH), BROKEN * 2, 1), ('clean', widened(P9, BOTH), CLEAN * 2, 0), ('ODT', widened(P8, BOTH, 1, 1), BROKEN * 2, 1), \
-            ('in reset', widened(P8, BOTH, 0), SAME * 2, 0), \
+            ('both', widened(P8, BOTH), BROKEN * 2, 1), ('clean', widened(P9, BOTH), CLEAN * 2, 0), ('unjudged', widened(P9, BOTH, 0, 1), CLEAN * 2, 0), \
             ('bit', widened(P9)[:-1] + b'\1', b'refused 14\n', 2), ('ragged', widened(P9)[:-2], b'refused 5\n', 2), ('edition 3', b'\x34' + P9[1:], b'refused 2\n', 2):
         (folder / what).write_bytes(recording)
         ran = run([JUDGE, what], folder)
@@ -154,7 +123,7 @@ def tables(check, run, folder):
     (folder / 'r.rec').write_bytes(widened(P8)[:2] + bytes(4) + widened(P8)[6:])
     ran = run([JUDGE, '--list', '6-7', 'r.rec'], folder)
     check(f'judge --list of a header that is refused: {ran}', ran.returncode == 2 and ran.stdout == b'' and ran.stderr.startswith(b'judge: r.rec:0x0: refused 4: ') and ran.stderr.count(b'\n') == 1)
-    for name, recording in ('ranks', widened(P8)), ('ranks-apart', APART), ('ranks-reset', POWERED[1][1]):
+    for name, recording in ('ranks', widened(P8)), ('ranks-apart', APART):
         (folder / 'r.rec').write_bytes(recording)
         ran = run([JUDGE, '--lot', 'r.rec'], folder)
         stored = (ROOT / f'tests/use/reports/{name}.txt').read_bytes()
@@ -162,27 +131,6 @@ def tables(check, run, folder):
     (folder / 'bit').write_bytes(widened(P9)[:-1] + b'\1')
     ran = run([JUDGE, '--lot', 'bit'], folder)
     check(f'judge --lot of a bit: {ran}', ran.stdout == b'No verdict. bit:0x36: refused 14: a bit of the record that must be 0 is 1\n' and ran.returncode == 2)
-
-
-def powered(check, run, folder):
-    """From power-up: the lines, the counts, the list and the words of the report."""
-    for what, recording, lines, counts in POWERED:
-        (folder / 'r.rec').write_bytes(recording)
-        status = int(any('rule' in line for line in lines))
-        ran = run([JUDGE, '--brief', 'r.rec'], folder)
-        check(f'judge --brief from power-up, {what}: {ran}', (ran.stdout.decode().splitlines(), ran.returncode, ran.stderr) == (lines, status, b''))
-        found = json.loads(run([JUDGE, '--json', 'r.rec'], folder).stdout)
-        check(f'judge --json from power-up, {what}: the first ZQ', found['clocks_zqinit'] == 512)
-        for rank in RANK:
-            told = found[f'rank{rank}_count_RESET'], found[f'rank{rank}_count_RISE']
-            check(f'judge --json from power-up, {what}: rank {rank} counts {told}', told == counts)
-        ran = run([JUDGE, '--list', '1-3', 'r.rec'], folder)
-        listed = [line.split()[6] for line in ran.stdout.decode().splitlines() if line.split()[0].strip('*').isdigit()]
-        check(f'judge --list from power-up, {what}: {listed}', listed == 2 * (['RESET', 'RESET', 'RISE'] if counts[1] else 3 * ['RESET']))
-        ran = run([JUDGE, '--lot', 'r.rec'], folder)
-        wanted = {'tXS': b'earlier record 3: CKE rose after reset, edge 3 ', 'turn': b'by rule 32: after power-up the first commands are MR2, MR3, MR1, MR0 with DLL reset, long ZQ, in this order\n',
-                  'first ZQ': b'found 511, needed 512 clocks: first ZQ 640000 ps / 1500 ps (at least 512) = 512\n', 'rise': b'  record 3: CKE rose after reset, edge 3 '}
-        check(f'judge --lot from power-up, {what}: {ran}', ran.returncode == status and wanted.get(what, b'') in ran.stdout and ran.stderr == b'')
 
 
 def there_and_back(check, run, folder):
@@ -220,4 +168,4 @@ def refused(check, run, folder):
     check('judge --widen wrote over what it read', (folder / 'in').read_bytes() == P9)
 
 
-TESTS = [judged, in_words, values, tables, powered, there_and_back, refused]
+TESTS = [judged, in_words, values, tables, there_and_back, refused]

@@ -1,12 +1,10 @@
 """The verdict in one line that begins with a file and an offset, as compilers write them."""
 
 from fields import refused
-from words import NAMES, OF_RANK, due
+from words import NAMES, OF_RANK
 
 # The commands that speak of one bank.
 BANKED = {'ACT', 'RD', 'RDA', 'WR', 'WRA', 'PRE'}
-OF_RESETS = {'RESET': 'in reset', 'RISE': 'CKE rose after reset'}
-
 
 def place(said, what):
     return f'{said[what + "_file"]}:0x{int(said[what + "_byte"]):x}'
@@ -18,7 +16,7 @@ def command(said, what):
         return f'{name} bank {said[what + "_bank"]}'
     if name == 'MRS':
         return f'MRS of MR{said[what + "_bank"]}'
-    return OF_RESETS.get(name, name)
+    return name
 
 
 def told(said, last):
@@ -35,8 +33,7 @@ def told(said, last):
     if 'record_file' not in said:
         return f'{last}: {name}: {passed(said, rule)}'
     if rule == 1:
-        rose = ', which ends a reset,' if said['record_command'] == 'RISE' else ''
-        change = f'CKE from {said["record_cke_before"]} to {said["record_cke"]}{rose} with pins {said["record_pins"]}'
+        change = f'CKE from {said["record_cke_before"]} to {said["record_cke"]} with pins {said["record_pins"]}'
         return f'{place(said, "record")}: {name}: {change} at edge {said["record_edge"]}'
     return f'{place(said, "record")}: {name}: {command(said, "record")} at edge {said["record_edge"]}{why(said, rule)}'
 
@@ -55,8 +52,6 @@ def why(said, rule):
         return ': ' + lacking(said)
     if rule == 23:
         return f': no REF since SRX ({place(said, "partner")})'
-    if rule == 32:
-        return f': out of turn after power-up, {due(said)} is due'
     return f', {clocks(said["found"])} after {counted_from(said)}, needs {said["needed"]}'
 
 
@@ -72,14 +67,10 @@ def lacking(said):
 def counted_from(said):
     """The earlier record, or the start of its precharge where that is counted from."""
     start = int(said['edge']) - int(said['found'])
-    earlier = f'{earlier_one(said)} ({place(said, "partner")})'
+    earlier = f'{command(said, "partner")} ({place(said, "partner")})'
     if start != int(said['partner_edge']):
         return f'the precharge start at {start} of {earlier}'
     return earlier
-
-
-def earlier_one(said):
-    return 'the rise of CKE that ends a reset' if said['partner_command'] == 'RISE' else command(said, 'partner')
 
 
 def asleep(said):

@@ -8,7 +8,7 @@ from programs import Failed
 
 BARS = 120
 KINDS = {'RD, RDA, WR, WRA': ('dark', {'RD', 'RDA', 'WR', 'WRA'}), 'ACT, PRE, PREA': ('hatched', {'ACT', 'PRE', 'PREA'}), 'other commands': ('white', None)}
-NOTHING = {'NOP', 'DES', 'IGNORED', 'RESET', 'RISE'}
+NOTHING = {'NOP', 'DES', 'IGNORED'}
 LIMIT = 8
 REMARK = ('Drawn by ./judge --picture. The verdict is the proved program\'s. The curves are not proved; their sums come to the counts and to the debt '
           'at the end that the proved program tells.')
@@ -44,17 +44,11 @@ class Use:
         found = rows(said)
         named = Names(by_levels(found), layout, SELECTS[said.get('rank', '1')])
         kinds = {name: next(kind for kind, (_, some) in KINDS.items() if some is None or name in some) for name, _ in found if name not in NOTHING}
-        last, asleep, reset = 0, False, None
+        last, asleep = 0, False
         for edge, word in records(behind_header(joined(names)), layout):
+            if not asleep:
+                self.pass_to(last, edge)
             name = named.of(word)
-            if reset is None:
-                reset = name == 'RESET'  # before the first record RESET has the first's level
-            if not asleep and not reset:
-                self.pass_to(last, edge - 1 if name == 'RESET' else edge)
-            if name == 'RESET':
-                self.owes(edge, 0)
-                self.awake = 0
-            reset = name == 'RESET'
             self.seen[name] = self.seen.get(name, 0) + 1
             if name == 'REF':
                 self.owes(edge, max(self.debt - 1, -LIMIT))

@@ -106,7 +106,7 @@ class Import:
     def remark(self):
         """What the user should know and did not ask for, on standard error."""
         mean, given, turns = self.clock.mean(), self.wanted.period, self.capture.turns
-        if self.sampler.starts_low and not self.sampler.starts_in_reset:
+        if self.sampler.starts_low:
             complain('the capture begins with CKE low, and a recording begins with CKE high: its first record takes it low, and will be judged so')
         if self.pins.zeros:
             complain(f'{", ".join(self.pins.zeros)} are not in the capture and count as 0')

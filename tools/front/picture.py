@@ -8,7 +8,7 @@ from report import broken, ns, part
 from report import heading as rank
 from slots import fitting
 from values import ranks
-from words import NAMES, rule_told
+from words import NAMES, RULES
 
 GUTTER, MARGIN, GAP, LEAST = 92, 24, 5, 980
 LABELS = {'label': 22}
@@ -18,7 +18,7 @@ BUSES = {'command': 38, 'BA': 34, 'A': 34}
 HIGH, LOW = 7, 27  # of a wire's lane
 ADDRESSED = BANKED | {'MRS', 'PREA', 'ZQCL', 'ZQCS'}
 REMARK = 'Drawn by ./judge --picture. Verdict, records and numbers are the proved program\'s; the drawing itself is not proved.'
-SHORT = {'FORBIDDEN': 'CKE !', 'IGNORED': 'low', 'RESET': 'reset', 'RISE': 'rise'}
+SHORT = {'FORBIDDEN': 'CKE !', 'IGNORED': 'low'}
 
 
 def picture(said, names, inline=False):
@@ -37,7 +37,7 @@ def heading(said, names):
     if said['outcome'] == 'clean':
         return [f'{which}Verdict: clean up to {at}', lot(said, names), part(said)]
     rule = int(said['rule'])
-    return [f'{which}Verdict: broken at {at} by rule {rule} ({NAMES[rule]})', f'Rule {rule}: {rule_told(said)}', lot(said, names), part(said)]
+    return [f'{which}Verdict: broken at {at} by rule {rule} ({NAMES[rule]})', f'Rule {rule}: {RULES[rule]}', lot(said, names), part(said)]
 
 
 def lot(said, names):

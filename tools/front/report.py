@@ -4,7 +4,7 @@ from brief import asleep, command, place, told
 from layout import BINS
 from sums import needed
 from values import ranks
-from words import OF_RANK, rule_told
+from words import OF_RANK, RULES
 
 
 def ns(said, edge):
@@ -31,9 +31,9 @@ def record(said, what, label):
 
 def broken(said, last):
     rule = int(said['rule'])
-    yield f'Verdict: broken at {at(said, said["edge"])} by rule {rule}: {rule_told(said)}'
+    yield f'Verdict: broken at {at(said, said["edge"])} by rule {rule}: {RULES[rule]}'
     yield f'  {told(said, last)}'
-    if rule not in (1, 2, 3, 23, 32):
+    if rule not in (1, 2, 3, 23):
         yield from counts(said, rule)
     for what, label in ('record', 'record'), ('partner', 'earlier record'):
         if f'{what}_file' in said:

@@ -14,18 +14,16 @@ class Sampler:
     """instead: the level that counts where one is not known, None where that is an error.
 
     replaced: how many levels it counted for where they matter. careless: how many unknown levels stand in records where they do not. held: the
-    levels of the latest record, and before there is one those at the first edge with CKE high. begun: the first edge, until there is a record."""
+    levels of the latest record, and before there is one those at the first edge with CKE high."""
 
     def __init__(self, pins, times, instead):
         self.pins, self.layout, self.times, self.instead = pins, pins.layout, times, instead
         self.replaced = self.careless = 0
-        self.starts_low = self.starts_in_reset = False
-        self.held, self.begun, self.reset = None, None, pins.layout.mask('RESET')
+        self.starts_low, self.held = False, None
 
     def taken(self, edges):
         """Edge and word of each edge at which something happens: a kept level changes, or there is a command while CKE is high. held is the one before
-        until the next is asked for. Before its first record a recording has that one's RESET: where that would be high and is low, the first edge has a
-        record too."""
+        until the next is asked for."""
         layout, quiet = self.layout, None
         decisive = layout.kept | layout.selects | layout.command
         decisive |= decisive << UNKNOWN
@@ -35,18 +33,15 @@ class Sampler:
                 continue
             if self.held is None:
                 self.held = self.filled(word) | layout.cke
-                self.starts_low, self.starts_in_reset = not self.filled(word) & layout.cke, self.held & self.reset != self.reset
-                self.begun = edge
+                self.starts_low = not self.filled(word) & layout.cke
             own = self.known(word, edge, time)
             if layout.quiet(self.held, own):
                 quiet = None if key >> UNKNOWN else key
             else:
                 if word >> UNKNOWN:
                     self.careless += (word >> UNKNOWN & layout.all & ~self.mattering(own)).bit_count()
-                if self.begun is not None and own & ~self.held & self.reset:
-                    yield self.begun, layout.idle(self.held)
                 yield edge, own
-                self.held, self.begun, quiet = own, None, None
+                self.held, quiet = own, None
 
     def filled(self, word):
         """The pins' levels, with one for those that are not known."""

@@ -38,7 +38,7 @@ class Break:
         self.said, self.rule, self.edge = said, int(said['rule']), int(said['edge'])
         self.number, self.partner = int(said['record']), int(said['partner'])
         self.partner_edge = int(said['partner_edge']) if self.partner else None
-        self.counted = self.rule not in (1, 2, 3, 23, 25, 32)
+        self.counted = self.rule not in (1, 2, 3, 23, 25)
         self.start = self.edge - int(said['found']) if self.counted and self.rule != 31 else self.partner_edge
         self.limit = self.edge - int(said['found']) + int(said['needed']) if self.counted else None
         self.records = {int(r['edge']): r for first, last in self.ranges() for r in listed(names, first, last, said.get('rank', '1'))}

@@ -6,15 +6,15 @@ BINS = {
     'tras': [37500, 36000, 35000, 34240], 'tcke': [5625, 5625, 5000, 5000], 'txp': [7500, 6000, 6000, 6000],
 }
 PAGES = {'trrd': [[7500, 6000, 6000, 5000], [10000, 7500, 7500, 6000]], 'tfaw': [[37500, 30000, 30000, 27000], [50000, 45000, 40000, 35000]]}
-SAME = {'trtp': 7500, 'twtr': 7500, 'twr': 15000, 'tmod': 15000, 'zqlong': 320000, 'zqinit': 640000, 'zqshort': 80000, 'txpdll': 24000}
+SAME = {'trtp': 7500, 'twtr': 7500, 'twr': 15000, 'tmod': 15000, 'zqlong': 320000, 'zqshort': 80000, 'txpdll': 24000}
 REFRESH = {'1': 110000, '2': 160000}
-LEAST = {'trrd': 4, 'tcke': 3, 'trtp': 4, 'twtr': 4, 'tmod': 12, 'txs': 5, 'zqlong': 256, 'zqinit': 512, 'zqshort': 64, 'txp': 3, 'txpdll': 10}
+LEAST = {'trrd': 4, 'tcke': 3, 'trtp': 4, 'twtr': 4, 'tmod': 12, 'txs': 5, 'zqlong': 256, 'zqshort': 64, 'txp': 3, 'txpdll': 10}
 SHOWN = {
     'trcd': 'tRCD', 'trp': 'tRP', 'trc': 'tRC', 'tras': 'tRAS', 'trrd': 'tRRD', 'tfaw': 'tFAW', 'tcke': 'tCKE', 'trtp': 'tRTP', 'twtr': 'tWTR', 'twr': 'tWR',
-    'tmod': 'tMOD', 'trfc': 'tRFC', 'txs': 'tXS', 'zqlong': 'ZQ long', 'zqinit': 'first ZQ', 'zqshort': 'ZQ short', 'txp': 'tXP', 'txpdll': 'tXPDLL',
+    'tmod': 'tMOD', 'trfc': 'tRFC', 'txs': 'tXS', 'zqlong': 'ZQ long', 'zqshort': 'ZQ short', 'txp': 'tXP', 'txpdll': 'tXPDLL',
 }
 TIMES = {
-    5: ['trp'], 6: ['trc'], 7: ['trrd'], 8: ['tfaw'], 9: ['tras'], 15: ['trfc'], 17: ['tmod'], 18: ['zqlong', 'zqinit', 'zqshort'], 21: ['txs'], 27: ['tcke'],
+    5: ['trp'], 6: ['trc'], 7: ['trrd'], 8: ['tfaw'], 9: ['tras'], 15: ['trfc'], 17: ['tmod'], 18: ['zqlong', 'zqshort'], 21: ['txs'], 27: ['tcke'],
     29: ['txp'], 30: ['txpdll'],
 }
 FIXED = {12: 4, 16: 4, 20: 512}

@@ -16,7 +16,7 @@ NAMES = {
     1: 'CKE change', 2: 'bank state', 3: 'registers', 4: 'tRCD', 5: 'tRP', 6: 'tRC', 7: 'tRRD', 8: 'tFAW', 9: 'tRAS', 10: 'AL + tRTP', 11: 'WL + h + tWR',
     12: 'column to column', 13: 'RD to WR', 14: 'WR to RD', 15: 'tRFC', 16: 'tMRD', 17: 'tMOD', 18: 'ZQ time', 19: 'RL + b', 20: 'DLL', 21: 'tXS', 22: 'tCKE + 1',
     23: 'REF between SRX and SRE', 24: 'greatest tRAS', 25: 'refresh debt', 26: 'power-down entry', 27: 'tCKE', 28: 'greatest stay', 29: 'tXP', 30: 'tXPDLL',
-    31: 'nine intervals', 32: 'order after power-up',
+    31: 'nine intervals',
 }
 
 RULES = {
@@ -51,26 +51,4 @@ RULES = {
     29: 'from a power-down exit to any command at least tXP',
     30: 'from the exit of a precharge power-down, with A12 = 0 in MR0, to a RD at least tXPDLL',
     31: "no two REFs are farther apart than nine times tREFI's clocks on the awake clock",
-    32: 'after power-up the first commands are MR2, MR3, MR1, MR0 with DLL reset, long ZQ, in this order',
 }
-
-# Of edition 2, which has RESET.
-WITH_RESET = {
-    1: 'CKE changes only to enter or leave self-refresh or power-down, and to end a reset with a NOP or DES',
-    18: 'from a ZQ to any command at least its time, which is longer for the first after power-up',
-    21: 'from an SRX, or from the rise of CKE that ends a reset, to any command at least tXS',
-    27: 'from a change of CKE, also the rise that ends a reset, to the next at least tCKE',
-}
-
-ORDER = {'mr2': 'an MRS of MR2', 'mr3': 'an MRS of MR3', 'mr1': 'an MRS of MR1', 'mr0': 'an MRS of MR0 with DLL reset'}  # then a long ZQ
-
-
-def rule_told(said):
-    """The rule that is broken, in words."""
-    rule = int(said['rule'])
-    return WITH_RESET.get(rule, RULES[rule]) if 'edition' in said else RULES[rule]
-
-
-def due(said):
-    """What the order after power-up asks for: one out of turn is never kept, so the registers that are written tell how far it has come."""
-    return next((words for register, words in ORDER.items() if register not in said), 'a long ZQ')

@@ -1,4 +1,3 @@
 pub mod Answer
-pub mod Moved
 pub mod Back
 pub mod Promises

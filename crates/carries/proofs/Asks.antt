@@ -1,11 +1,6 @@
 -- What a record asks of later commands is what the rules say that it asks, and so it moves the waiting times of the summary.
 -- Assumes nothing.
-use Rattle.rules.proofs.Rising.{no-rise}
-use Rattle.rules.specs.Order.{place}
-use Rattle.edges.specs.Step.{tuned_by}
-use Rattle.chip.specs.Chip.{chip_for}
-use native.Mathlib.Nat.{zero-max}
-use Prim.Native.Nat.{ℕ, ◌+◌, max, ◌≤◌}
+use Prim.Native.Nat.{ℕ, ◌+◌, max}
 use native.Mathlib.Omega.{arith}
 use mathlib.Core.Path.{◌≡◌, refl, sym, ap, ◌∙◌}
 use mathlib.Core.Bool.{Bool, true, false, cond, ◌&&◌, ◌||◌}
@@ -20,37 +15,33 @@ use Rattle.records.specs.declared.Command.TheVariants.{Mrs, Ref, Pre, Act, Wr, R
 use Rattle.chip.specs.declared.Chip.{Chip}
 use Rattle.chip.specs.declared.Regs.{Regs}
 use Rattle.running.specs.Next.{need4, need10, need11}
-use Rattle.edges.specs.Asks.{need13, need14, need19, four_back, when, asks_act, asks_rd, asks_wr, asks_pre, asks_ref, asks_mrs, asks_sre, waits_next, need18}
+use Rattle.edges.specs.Asks.{need13, need14, need19, four_back, when, asks_act, asks_rd, asks_wr, asks_pre, asks_ref, asks_mrs, asks_sre, waits_next}
 use Rattle.edges.specs.Next.{start_of, slow_now}
-use Rattle.rules.specs.Past.{Past, edge, number, command, is, on, back, rises}
+use Rattle.rules.specs.Past.{Past, edge, number, command, is, on, back}
 use Rattle.rules.specs.Registers.{regs, dll_reset}
 use Rattle.rules.specs.Banks.{act_on, closes, shuts}
 use Rattle.rules.specs.Down.{slow_exit}
 use Rattle.rules.specs.Search.{asking}
-use Rattle.rules.specs.Rules.{r6, r7, r9, r12r, r12w, r15, r16, r17, r18, r20, r21, r29, r30, r21u}
+use Rattle.rules.specs.Rules.{r6, r7, r9, r12r, r12w, r15, r16, r17, r18, r20, r21, r29, r30}
 use Rattle.rules.specs.Waiting.{Ask, by, by_start, after_fourth, by_fourth, asks, asked, wait}
 use Rattle.rules.proofs.Clean.{Clean}
 use Rattle.rules.proofs.Waiting.{moves}
 use Rattle.carries.proofs.Summary.{turn_of, acts_of, banks_of, waits_of, device_of}
 use Rattle.carries.proofs.Views.{turn_small, ring-at}
 use Rattle.carries.proofs.Shut.{closes-shuts}
-use Rattle.carries.proofs.Moves.{regs-still, start-kept, slow-is, need18-is}
+use Rattle.carries.proofs.Moves.{regs-still, start-kept, slow-is}
 
 -- asked where x holds
 asked-where : (x : Bool) (m n : ℕ) → (x ≡ true → m ≡ n) → when x m ≡ cond x n 0
 asked-where true m n h = h refl
 asked-where false m n h = refl
 
-module _ (C : Chip) (r : Record) (p : Past) (far : 1 ≤ r.step) (h : Clean C p) where
+module _ (C : Chip) (r : Record) (p : Past) (h : Clean C p) where
   abbrev e : ℕ
   e = edge (r ∷ p)
 
   abbrev c : Command
   c = command (r ∷ p)
-
-  -- the chip at the record
-  abbrev D : Chip
-  D = tuned_by C (place p)
 
   abbrev from : ℕ
   from = start_of C c r e (regs p) (banks_of C p)
@@ -104,14 +95,6 @@ module _ (C : Chip) (r : Record) (p : Past) (far : 1 ≤ r.step) (h : Clean C p)
   wr-regs : is Wr (r ∷ p) ≡ true → regs p ≡ regs (r ∷ p)
   wr-regs y = regs-still r p Wr (λ z. omega arith) y
 
-  -- rule 18
-  eighteen : when (is Zq (r ∷ p)) (e + need18 D r) ≡ one (by C r18 (is Zq))
-  eighteen = ap (λ n. when (is Zq (r ∷ p)) (e + n)) (need18-is C r p)
-
-  -- rule 21: the record is no rise
-  skip : (n : ℕ) → n ≡ max (one (by C r21u rises)) n
-  skip n = sym (ap (λ (x : Bool). max (cond x (e + C.txs) 0) n) (no-rise r p far) ∙ zero-max n)
-
   -- rule 30
   thirty : when (is Pdx (r ∷ p) && slow) (e + C.txpdll) ≡ one (by C r30 (slow_exit C))
   thirty = ap (λ x. cond x (e + C.txpdll) 0) (slow-is r p C h)
@@ -119,54 +102,54 @@ module _ (C : Chip) (r : Record) (p : Past) (far : 1 ≤ r.step) (h : Clean C p)
   -- ── One command ───────────────────────────────────────────────────────────────────────────
 
   module _ (b : ℕ) where
-    asks-act : asks_act D c r e (regs p) from four slow b ≡ asked C Act b (r ∷ p)
-    unfolding asks_act asked asks chip_for
+    asks-act : asks_act C c r e (regs p) from four slow b ≡ asked C Act b (r ∷ p)
+    unfolding asks_act asked asks
     asks-act = λ i. max (five b i) (max (one (by C r6 (act_on b))) (max (one (by C r7 (is Act))) (max (eight i)
-        (max (one (by C r15 (is Ref))) (max (one (by C r17 (is Mrs))) (max (eighteen i) (max (one (by C r21 (is Srx))) (skip (max (one (by C r29 (is Pdx))) 0) i))))))))
+        (max (one (by C r15 (is Ref))) (max (one (by C r17 (is Mrs))) (max (one (by C r18 (is Zq))) (max (one (by C r21 (is Srx))) (max (one (by C r29 (is Pdx))) 0))))))))
 
-    asks-rd : asks_rd D c r e (regs p) from four slow b ≡ asked C Rd b (r ∷ p)
-    unfolding asks_rd asked asks chip_for
+    asks-rd : asks_rd C c r e (regs p) from four slow b ≡ asked C Rd b (r ∷ p)
+    unfolding asks_rd asked asks
     asks-rd = λ i. max (by-regs (act_on b (r ∷ p)) (need4 C) (act-regs b) i) (max (one (by C r12r (is Rd)))
         (max (by-regs (is Wr (r ∷ p)) (need14 C) wr-regs i) (max (one (by C r15 (is Ref))) (max (one (by C r17 (is Mrs)))
-        (max (eighteen i) (max (one (by C r20 (λ s. dll_reset s || is Srx s))) (max (one (by C r21 (is Srx))) (skip (max (one (by C r29 (is Pdx))) (max (thirty i) 0)) i))))))))
+        (max (one (by C r18 (is Zq))) (max (one (by C r20 (λ s. dll_reset s || is Srx s))) (max (one (by C r21 (is Srx))) (max (one (by C r29 (is Pdx))) (max (thirty i) 0)))))))))
 
-    asks-wr : asks_wr D c r e (regs p) from four slow b ≡ asked C Wr b (r ∷ p)
-    unfolding asks_wr asked asks chip_for
+    asks-wr : asks_wr C c r e (regs p) from four slow b ≡ asked C Wr b (r ∷ p)
+    unfolding asks_wr asked asks
     asks-wr = λ i. max (by-regs (act_on b (r ∷ p)) (need4 C) (act-regs b) i) (max (one (by C r12w (is Wr)))
         (max (by-regs (is Rd (r ∷ p)) (λ g. need13 g r) rd-regs i) (max (one (by C r15 (is Ref))) (max (one (by C r17 (is Mrs)))
-        (max (eighteen i) (max (one (by C r21 (is Srx))) (skip (max (one (by C r29 (is Pdx))) 0) i)))))))
+        (max (one (by C r18 (is Zq))) (max (one (by C r21 (is Srx))) (max (one (by C r29 (is Pdx))) 0)))))))
 
-    asks-pre : asks_pre D c r e (regs p) from four slow b ≡ asked C Pre b (r ∷ p)
-    unfolding asks_pre asked asks chip_for
+    asks-pre : asks_pre C c r e (regs p) from four slow b ≡ asked C Pre b (r ∷ p)
+    unfolding asks_pre asked asks
     asks-pre = λ i. max (one (by C r9 (act_on b)))
         (max (by-regs (is Rd (r ∷ p) && on b (r ∷ p)) (need10 C) (λ y. rd-regs (both (is Rd (r ∷ p)) _ y).0) i)
         (max (by-regs (is Wr (r ∷ p) && on b (r ∷ p)) (need11 C) (λ y. wr-regs (both (is Wr (r ∷ p)) _ y).0) i)
-        (max (one (by C r15 (is Ref))) (max (one (by C r17 (is Mrs))) (max (eighteen i) (max (one (by C r21 (is Srx))) (skip (max (one (by C r29 (is Pdx))) 0) i)))))))
+        (max (one (by C r15 (is Ref))) (max (one (by C r17 (is Mrs))) (max (one (by C r18 (is Zq))) (max (one (by C r21 (is Srx))) (max (one (by C r29 (is Pdx))) 0)))))))
 
-  asks-ref : asks_ref D c r e (regs p) from four slow ≡ asked C Ref 0 (r ∷ p)
-  unfolding asks_ref asked asks chip_for
+  asks-ref : asks_ref C c r e (regs p) from four slow ≡ asked C Ref 0 (r ∷ p)
+  unfolding asks_ref asked asks
   asks-ref = λ i. max (five-all i)
-      (max (one (by C r15 (is Ref))) (max (one (by C r17 (is Mrs))) (max (eighteen i) (max (one (by C r21 (is Srx))) (skip (max (one (by C r29 (is Pdx))) 0) i)))))
+      (max (one (by C r15 (is Ref))) (max (one (by C r17 (is Mrs))) (max (one (by C r18 (is Zq))) (max (one (by C r21 (is Srx))) (max (one (by C r29 (is Pdx))) 0)))))
 
-  asks-zq : asks_ref D c r e (regs p) from four slow ≡ asked C Zq 0 (r ∷ p)
+  asks-zq : asks_ref C c r e (regs p) from four slow ≡ asked C Zq 0 (r ∷ p)
   unfolding asked asks
   asks-zq = asks-ref
 
-  asks-mrs : asks_mrs D c r e (regs p) from four slow ≡ asked C Mrs 0 (r ∷ p)
-  unfolding asks_mrs asked asks chip_for
+  asks-mrs : asks_mrs C c r e (regs p) from four slow ≡ asked C Mrs 0 (r ∷ p)
+  unfolding asks_mrs asked asks
   asks-mrs = λ i. max (five-all i)
-      (max (one (by C r15 (is Ref))) (max (one (by C r16 (is Mrs))) (max (eighteen i)
-      (max (by-regs (is Rd (r ∷ p)) (λ g. need19 g r) rd-regs i) (max (one (by C r21 (is Srx))) (skip (max (one (by C r29 (is Pdx))) 0) i))))))
+      (max (one (by C r15 (is Ref))) (max (one (by C r16 (is Mrs))) (max (one (by C r18 (is Zq)))
+      (max (by-regs (is Rd (r ∷ p)) (λ g. need19 g r) rd-regs i) (max (one (by C r21 (is Srx))) (max (one (by C r29 (is Pdx))) 0))))))
 
-  asks-sre : asks_sre D c r e (regs p) from four slow ≡ asked C Sre 0 (r ∷ p)
-  unfolding asks_sre asked asks chip_for
+  asks-sre : asks_sre C c r e (regs p) from four slow ≡ asked C Sre 0 (r ∷ p)
+  unfolding asks_sre asked asks
   asks-sre = λ i. max (five-all i)
-      (max (one (by C r15 (is Ref))) (max (one (by C r17 (is Mrs))) (max (eighteen i)
-      (max (by-regs (is Rd (r ∷ p)) (λ g. need19 g r) rd-regs i) (max (one (by C r21 (is Srx))) (skip (max (one (by C r29 (is Pdx))) 0) i))))))
+      (max (one (by C r15 (is Ref))) (max (one (by C r17 (is Mrs))) (max (one (by C r18 (is Zq)))
+      (max (by-regs (is Rd (r ∷ p)) (λ g. need19 g r) rd-regs i) (max (one (by C r21 (is Srx))) (max (one (by C r29 (is Pdx))) 0))))))
 
   -- ── The waiting times ─────────────────────────────────────────────────────────────────────
 
-  pub waits-next : waits_next D c r e (regs p) from four slow (waits_of C p) ≡ waits_of C (r ∷ p)
+  pub waits-next : waits_next C c r e (regs p) from four slow (waits_of C p) ≡ waits_of C (r ∷ p)
   unfolding waits_next waits_of
   waits-next = λ i. record {
     act = table-ext _ (λ b. wait C Act b (r ∷ p)) (λ b l. raised Act b (get_or-table (λ b. wait C Act b p) b 0 l) (asks-act b)) i;

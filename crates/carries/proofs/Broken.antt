@@ -1,6 +1,5 @@
 -- What a record breaks of the rules, by the summary's waiting times and marks, is what the rules say, looking back.
 -- Assumes nothing.
-use Rattle.rules.specs.Verdict.{Apart}
 use Prim.Native.Nat.{ℕ, zero, suc, ◌+◌, ◌≤◌, max}
 use native.Mathlib.Omega.{arith}
 use mathlib.Core.Path.{◌≡◌, refl, sym, ap, ◌∙◌}
@@ -21,9 +20,9 @@ use Rattle.records.specs.Command.{is_a, a10, bank_in}
 use Rattle.chip.specs.declared.Chip.{Chip}
 use Rattle.running.specs.Breaks.{rule1, rule2, rule3}
 use Rattle.edges.specs.Asks.{greatest, wait_for}
-use Rattle.edges.specs.Says.{last_rules, spaced_in, broken_in, changed_in, left_in, ordered_in}
+use Rattle.edges.specs.Says.{last_rules, spaced_in, broken_in, changed_in, left_in}
 use Rattle.rules.specs.Past.{Past, edge, changes, command, is, latest}
-use Rattle.rules.specs.Rules.{spacing, spaced, r22, rule23, checks, change_checks, exit_checks, break_at, order_checks}
+use Rattle.rules.specs.Rules.{spacing, spaced, r22, rule23, checks, change_checks, exit_checks, break_at}
 use Rattle.rules.specs.Waiting.{asks, of_banks, wait, wait_at, spacing_rules}
 use Rattle.rules.proofs.Generic.{decide, constant-dominated}
 use Rattle.rules.proofs.Events.{or_else-fine}
@@ -32,7 +31,7 @@ use Rattle.rules.proofs.Facts.{Sound}
 use Rattle.rules.proofs.Summary.{mark, rests, shared}
 use Rattle.rules.proofs.Words.{or-fine, spacing_checks}
 use Rattle.rules.proofs.Agree.{row-also, marks23, spacings-agree, agrees2, agrees3}
-use Rattle.rules.proofs.Changing.{agrees26, agrees27, exits-agree, order-agrees}
+use Rattle.rules.proofs.Changing.{agrees26, agrees27, exits-agree}
 use Rattle.rules.proofs.Allowing.{waits-allow}
 use Rattle.carries.proofs.Summary.{debt_of, waits_of, summary}
 use Rattle.carries.proofs.Views.{kepts-view, written-view}
@@ -81,7 +80,7 @@ break-append (f ∷ fs) gs r p = ap (or_else (f r p)) (break-append fs gs r p) �
     or-or Fine y z = refl
     or-or (Broken k n m f) y z = refl
 
-module _ (C : Chip) (S : Sound C) (r : Record) (p : Past) (h : Clean C p) (apart : Apart p) where
+module _ (C : Chip) (S : Sound C) (r : Record) (p : Past) (h : Clean C p) where
   abbrev e : ℕ
   e = edge (r ∷ p)
 
@@ -110,8 +109,8 @@ module _ (C : Chip) (S : Sound C) (r : Record) (p : Past) (h : Clean C p) (apart
   spaced-in : spaced_in C (summary C p) r e ≡ break_at (spacing_checks C) r p
   unfolding spaced_in summary debt_of
   spaced-in = ⊎_elim
-      (λ (y : leb (wait_for (waits_of C p) c r) e ≡ true). rw y (last_view C p h apart c e ∙ last-agree ∙ sym (over y)))
-      (λ (n : leb (wait_for (waits_of C p) c r) e ≡ false). rw n (spacings-view C p h apart c r e (bank_in r) (omega arith) ∙ spacings-agree C S r p h))
+      (λ (y : leb (wait_for (waits_of C p) c r) e ≡ true). rw y (last_view C p h c e ∙ last-agree ∙ sym (over y)))
+      (λ (n : leb (wait_for (waits_of C p) c r) e ≡ false). rw n (spacings-view C p h c r e (bank_in r) (omega arith) ∙ spacings-agree C S r p h))
       (decide (leb (wait_for (waits_of C p) c r) e))
 
   -- what the record breaks is what the rules say, looking back over all of the past
@@ -125,15 +124,11 @@ module _ (C : Chip) (S : Sound C) (r : Record) (p : Past) (h : Clean C p) (apart
 
   pub changed-in : 1 ≤ r.step → changed_in C (summary C p) r (edge (r ∷ p)) ≡ break_at (change_checks C) r p
   unfolding changed_in summary debt_of
-  changed-in far = λ i. or_else ((entry-view C p h apart c e ∙ agrees26 C S r p h far) i) ((held-view C p h apart (changes (r ∷ p)) e ∙ agrees27 C S r p h far) i)
+  changed-in far = λ i. or_else ((entry-view C p h c e ∙ agrees26 C S r p h far) i) ((held-view C p h (changes (r ∷ p)) e ∙ agrees27 C S r p h far) i)
 
   pub left_in_lem : 1 ≤ r.step → left_in C (summary C p) r (edge (r ∷ p)) ≡ break_at (exit_checks C) r p
   unfolding left_in summary debt_of
   left_in_lem far = ⊎_elim
       (λ (y : leb (wait_for (waits_of C p) c r) e ≡ true). rw y (sym (all-over y).1))
-      (λ (n : leb (wait_for (waits_of C p) c r) e ≡ false). rw n (exit_view C p h apart c e ∙ exits-agree C S r p h far))
+      (λ (n : leb (wait_for (waits_of C p) c r) e ≡ false). rw n (exit_view C p h c e ∙ exits-agree C S r p h far))
       (decide (leb (wait_for (waits_of C p) c r) e))
-
-  pub ordered-in : 1 ≤ r.step → ordered_in (summary C p) r ≡ break_at (order_checks C) r p
-  unfolding summary debt_of
-  ordered-in far = order-agrees C S r p h far

@@ -32,7 +32,7 @@ use Rattle.rules.proofs.Sense.{stays-to, stop-at, stop-after, clean-edges, earli
 use Rattle.rules.proofs.Gap.{now_any}
 use Rattle.rules.proofs.UpTo.{up-to-all, up-to-edge}
 use Rattle.rules.proofs.Edges.{clean-past, gap-says, late-after, small-owed-at, small-owed, near-stay, near-ref}
-use Rattle.rules.proofs.Turn.{said, passing}
+use Rattle.rules.proofs.Turn.{said}
 use Rattle.rules.proofs.Closing.{rest-shown, registers_in, registers-in, answer-of}
 use Rattle.carries.proofs.Summary.{clocks_left, debt_of, banks_of, device_of, summary}
 use Rattle.carries.proofs.Views.{kept-view, regs-view, written-view}
@@ -57,7 +57,7 @@ owed-left {T} pos o f x small =
     omega arith
 
 module _ (C : Chip) (pos : 0 < C.trefi) where
-  pub owed-in : (q : Past) (u : ℕ) → edge q ≤ u → owed_at C.trefi q u ≤ 16 → edges.owed_at C (debt_of C q) u ≡ owed_at C.trefi q u
+  owed-in : (q : Past) (u : ℕ) → edge q ≤ u → owed_at C.trefi q u ≤ 16 → edges.owed_at C (debt_of C q) u ≡ owed_at C.trefi q u
   unfolding debt_of clocks_left
   owed-in q u l small = go (asleep q) (owed-at pos q u)
     where
@@ -86,7 +86,7 @@ at_rest C p t (stop w n b) z l = earliest C p t w n b z (w - 1) l (omega arith)
 -- ── Banks and registers ─────────────────────────────────────────────────────────────────────
 
 module _ (C : Chip) (q : Past) where
-  pub banks-at : (u : ℕ) → banks_at C (banks_of C q) u ≡ table (λ b. shown_of (status C b q u))
+  banks-at : (u : ℕ) → banks_at C (banks_of C q) u ≡ table (λ b. shown_of (status C b q u))
   banks-at u =
       table-ext (λ b. shown_of (status_of (kept_of C (banks_of C q) b) u)) (λ b. shown_of (status C b q u))
       (λ b l. ap shown_of (ap (λ k. status_of k u) (kept-view C q b l) ∙ status-of C b u q))
@@ -119,18 +119,16 @@ module _ (C : Chip) (S : Sound C) (p : Past) (t : ℕ) where
       owed = ap (λ x. edges.owed_at C (debt_of C x) u) (sym keeps) ∙ kept ∙ ap (λ x. owed_at C.trefi x u) keeps
 
   -- the edges after a clean past up to the end
-  pub late-says : Apart p → edge p ≤ t → verdict_to C p (edge p) ≡ clean → verdict_to C p t ≡ passing (next_late C (summary C p) (t + 1)) (t + 1)
-  unfolding summary next_late device_of debt_of
-  late-says apart l z =
+  end-says : Apart p → edge p ≤ t → verdict_to C p (edge p) ≡ clean → verdict_of C (summary C p) t ≡ shown_verdict C p t
+  unfolding verdict_of summary next_late device_of debt_of
+  end-says apart l z =
       let e : t + 1 - 1 ≡ t = omega arith in
       let pos = S.refi-least in
-      ap (verdict_to C p) (sym e)
-      ∙ gap-says C p (now_any C p) (edge p) (t + 1) (t + 1) (next_late C (summary C p) (t + 1)) (omega arith) (omega arith)
-      (λ u a b. late-after C pos p u a) (due-next C p pos (small-owed C pos p apart z) (clean-past C p apart z) (near-stay C p apart z) (near-ref C p apart z) (t + 1)) z
-
-  end-says : Apart p → edge p ≤ t → verdict_to C p (edge p) ≡ clean → verdict_of C (summary C p) t ≡ shown_verdict C p t
-  unfolding verdict_of summary
-  end-says apart l z = go (ltb x.at (t + 1)) ∙ ap (λ v. shown v (number p) t) (sym (late-says apart l z))
+      go (ltb x.at (t + 1))
+      ∙ ap (λ v. shown v (number p) t)
+      (sym (gap-says C p (now_any C p) (edge p) (t + 1) (t + 1) x (omega arith) (omega arith)
+      (λ u a b. late-after C pos p u a) (due-next C p pos (small-owed C pos p apart z) (clean-past C p apart z) (near-stay C p apart z) (near-ref C p apart z) (t + 1)) z)
+      ∙ ap (verdict_to C p) e)
     where
       x : Late
       x = next_late C (summary C p) (t + 1)

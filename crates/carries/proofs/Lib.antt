@@ -12,11 +12,5 @@ pub mod Broken
 pub mod Gap
 pub mod Says
 pub mod Whole
-pub mod Lines
-pub mod Spans
-pub mod Dead
-pub mod Stretches
-pub mod Resets
-pub mod Answered
 pub mod Closing
 pub mod Waiting

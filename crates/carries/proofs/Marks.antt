@@ -1,7 +1,5 @@
 -- Rules 2 to 23, asked of the views of the summary, are the rules asked of what the rules' summary keeps.
 -- Assumes nothing.
-use Rattle.rules.specs.Verdict.{Apart}
-use Rattle.rules.specs.Order.{place}
 use Prim.Native.Nat.{ℕ, ◌<◌}
 use mathlib.Core.Path.{◌≡◌, refl, ap, ◌∙◌}
 use mathlib.Core.Bool.{Bool}
@@ -25,9 +23,9 @@ use Rattle.carries.proofs.Views.{kept-view, kepts-view, acts-view, rests-view, m
 use Rattle.carries.proofs.Latest.{read_view, wrote-view}
 use Rattle.carries.proofs.Shut.{shut-view}
 
-module _ (C : Chip) (p : Past) (h : Clean C p) (apart : Apart p) where
+module _ (C : Chip) (p : Past) (h : Clean C p) where
   abbrev pub shared_in : Shared
-  shared_in = shared_of C (banks_of C p) (acts_of p) (device_of C p) (place p)
+  shared_in = shared_of C (banks_of C p) (acts_of p) (device_of C p)
 
   -- what does not look at the rest of what all banks share is the same of the views
   abbrev seen : Shared
@@ -52,7 +50,7 @@ module _ (C : Chip) (p : Past) (h : Clean C p) (apart : Apart p) where
     now = 0;
     level = shared_in.level;
     acts = acts-view C p i;
-    rests = rests-view C p apart i;
+    rests = rests-view C p i;
     debt = shared_in.debt;
     regs = regs-view C p i;
     written = written-view C p i;

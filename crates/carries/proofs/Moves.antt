@@ -1,11 +1,6 @@
 -- A record changes the banks, the ring of ACTs and the device of the summary as the step changes them.
 -- Assumes nothing.
-use Rattle.rules.proofs.Rising.{turns-changes}
-use Rattle.rules.specs.Order.{place}
-use Rattle.edges.specs.Step.{tuned_by}
-use Rattle.chip.specs.Chip.{chip_for}
-use Rattle.header.specs.Counts.{zq_init}
-use Prim.Native.Nat.{ℕ, zero, suc, ◌+◌, ◌%◌, ◌<◌, ◌≤◌}
+use Prim.Native.Nat.{ℕ, zero, suc, ◌+◌, ◌%◌, ◌<◌}
 use native.Mathlib.Omega.{arith}
 use mathlib.Core.Path.{◌≡◌, refl, sym, ap, ◌∙◌, fun_ext}
 use mathlib.Core.Logic.{⊎_elim}
@@ -28,7 +23,7 @@ use Rattle.running.specs.Next.{changing, shuts_now, start_now}
 use Rattle.edges.specs.Asks as asks
 use Rattle.edges.specs.Next as edges
 use Rattle.edges.specs.Next.{set_if, start_of}
-use Rattle.rules.specs.Past.{Past, edge, number, cke, changes, asleep, command, is, address_of, latest, back, has, turns}
+use Rattle.rules.specs.Past.{Past, edge, number, cke, changes, asleep, command, is, address_of, latest, back, has}
 use Rattle.rules.specs.Registers.{mrs_to, dll_reset, regs}
 use Rattle.rules.specs.Banks.{act_on, closes, start}
 use Rattle.rules.specs.Down.{turned, precharged, slow_exit}
@@ -46,18 +41,6 @@ use Rattle.rules.proofs.Moves.{closes-own, start-now}
 use Rattle.carries.proofs.Summary.{of, each, turn_of, ring, acts_of, each_rest, each_register, banks_of, device_of}
 use Rattle.carries.proofs.Views.{turn_small, ring-set}
 use Rattle.carries.proofs.Stores.{stored, column-stored, shut-stored}
-
--- a ZQ is the first after power-up, or long, or short
-pub need18-is : (C : Chip) (r : Record) (p : Past) → asks.need18 (tuned_by C (place p)) r ≡ need18 C (r ∷ p)
-unfolding chip_for
-need18-is C r p = go (eqb (place p) 5) (a10 r)
-  where
-    go : (x y : Bool)
-        → cond y (cond x (zq_init C.header).clocks C.zqlong) (cond x (zq_init C.header).clocks C.zqshort)
-        ≡ cond x (zq_init C.header).clocks (cond y C.zqlong C.zqshort)
-    go true true = refl
-    go true false = refl
-    go false y = refl
 
 module _ (r : Record) (p : Past) where
   abbrev e : ℕ
@@ -172,13 +155,13 @@ module _ (r : Record) (p : Past) where
           ∙ push (λ y. cond x0 v0 a0 ∷ cond x1 v1 a1 ∷ cond x2 v2 a2 ∷ cond x3 v3 a3 ∷ cond x4 v4 a4 ∷ cond x5 v5 a5 ∷ cond x6 v6 a6 ∷ cond x7 v7 a7 ∷ y ∷ []) x8 v8 a8
 
   stamped-next :
-      (C : Chip) (slow : Bool) → changing c ≡ turns (r ∷ p) → is Pdx (r ∷ p) && slow ≡ slow_exit C (r ∷ p) → (f0 f1 f2 f3 f4 f5 f6 f7 f8 : Past → ℕ)
+      (C : Chip) (slow : Bool) → changing c ≡ changes (r ∷ p) → is Pdx (r ∷ p) && slow ≡ slow_exit C (r ∷ p) → (f0 f1 f2 f3 f4 f5 f6 f7 f8 : Past → ℕ)
       → edges.turned_to c slow (edges.stamped c r (each_rest C f0 f1 f2 f3 f4 f5 f6 f7 f8 p) (f0 (r ∷ p)) (f1 (r ∷ p)) (f2 (r ∷ p)) (f3 (r ∷ p)) (f4 (r ∷ p)) (f5 (r ∷ p)))
       (f6 (r ∷ p)) (f7 (r ∷ p)) (f8 (r ∷ p))
       ≡ each_rest C f0 f1 f2 f3 f4 f5 f6 f7 f8 (r ∷ p)
   stamped-next C slow turn exit f0 f1 f2 f3 f4 f5 f6 f7 f8 =
       stamped-is slow _ _ _ _ _ _ _ _ _ (f0 (r ∷ p)) (f1 (r ∷ p)) (f2 (r ∷ p)) (f3 (r ∷ p)) (f4 (r ∷ p)) (f5 (r ∷ p)) (f6 (r ∷ p)) (f7 (r ∷ p)) (f8 (r ∷ p))
-      ∙ (λ i. push f0 (is Ref (r ∷ p)) (r ∷ p) (latest (is Ref) p) i ∷ push f1 (is Mrs (r ∷ p)) (r ∷ p) (latest (is Mrs) p) i ∷ push f2 (is Zq (r ∷ p)) (r ∷ p) (latest (is Zq) p) i ∷ push f3 (is Sre (r ∷ p)) (r ∷ p) (latest (is Sre) p) i ∷ push f4 (is Srx (r ∷ p)) (r ∷ p) (latest (is Srx) p) i ∷ push f5 (dll_reset (r ∷ p)) (r ∷ p) (latest (dll_reset) p) i ∷ (ap (λ x. cond x (f6 (r ∷ p)) (f6 (turned p))) turn ∙ push f6 (turns (r ∷ p)) (r ∷ p) (turned p)) i ∷ push f7 (is Pdx (r ∷ p)) (r ∷ p) (latest (is Pdx) p) i ∷ (ap (λ x. cond x (f8 (r ∷ p)) (f8 (latest (slow_exit C) p))) exit ∙ push f8 (slow_exit C (r ∷ p)) (r ∷ p) (latest (slow_exit C) p)) i ∷ [])
+      ∙ (λ i. push f0 (is Ref (r ∷ p)) (r ∷ p) (latest (is Ref) p) i ∷ push f1 (is Mrs (r ∷ p)) (r ∷ p) (latest (is Mrs) p) i ∷ push f2 (is Zq (r ∷ p)) (r ∷ p) (latest (is Zq) p) i ∷ push f3 (is Sre (r ∷ p)) (r ∷ p) (latest (is Sre) p) i ∷ push f4 (is Srx (r ∷ p)) (r ∷ p) (latest (is Srx) p) i ∷ push f5 (dll_reset (r ∷ p)) (r ∷ p) (latest (dll_reset) p) i ∷ (ap (λ x. cond x (f6 (r ∷ p)) (f6 (turned p))) turn ∙ push f6 (changes (r ∷ p)) (r ∷ p) (turned p)) i ∷ push f7 (is Pdx (r ∷ p)) (r ∷ p) (latest (is Pdx) p) i ∷ (ap (λ x. cond x (f8 (r ∷ p)) (f8 (latest (slow_exit C) p))) exit ∙ push f8 (slow_exit C (r ∷ p)) (r ∷ p) (latest (slow_exit C) p)) i ∷ [])
 
   -- an exit is of a part that is in power-down
   pdx-low : is Pdx (r ∷ p) ≡ true → cke p || asleep p ≡ false
@@ -242,14 +225,13 @@ module _ (r : Record) (p : Past) where
       old : is Mrs (r ∷ p) ≡ false → (n : ℕ) → f n ≡ g n
       old z n = ap (λ x. cond (x && eqb (bank_in r) n) v (f n)) (sym z) ∙ same n
 
-  pub device-next : (C : Chip) → 1 ≤ r.step → Clean C (r ∷ p) → edges.device_next (tuned_by C (place p)) c r e n (edges.slow_now (banks_of C p) (device_of C p)) (device_of C p) ≡ device_of C (r ∷ p)
-  unfolding edges.device_next device_of chip_for
-  device-next C far h = λ i. record {
+  pub device-next : (C : Chip) → Clean C (r ∷ p) → edges.device_next C c r e n (edges.slow_now (banks_of C p) (device_of C p)) (device_of C p) ≡ device_of C (r ∷ p)
+  unfolding edges.device_next device_of
+  device-next C h = λ i. record {
     at = stamped-next C slow turn exit edge edge edge edge edge edge edge edge edge i;
     no = stamped-next C slow turn exit number number number number number number number number number i;
-    need = (ap (λ m. edges.turned_to c slow (edges.stamped c r (device_of C p).need C.trfc 4 m (C.tcke + 1) C.txs 512) C.tcke C.txp C.txpdll) (need18-is C r p)
-        ∙ stamped-next C slow turn exit (of (λ _. C.trfc)) (of (λ _. 4)) (of (need18 C)) (of (λ _. C.tcke + 1)) (of (λ _. C.txs)) (of (λ _. 512))
-        (of (λ _. C.tcke)) (of (λ _. C.txp)) (of (λ _. C.txpdll))) i;
+    need = stamped-next C slow turn exit (of (λ _. C.trfc)) (of (λ _. 4)) (of (need18 C)) (of (λ _. C.tcke + 1)) (of (λ _. C.txs)) (of (λ _. 512))
+        (of (λ _. C.tcke)) (of (λ _. C.txp)) (of (λ _. C.txpdll)) i;
     codes = registers-next C h (λ m. address_of (latest (mrs_to m) p)) (λ m. address_of (latest (mrs_to m) (r ∷ p))) r.a
         (λ m. push address_of (mrs_to m (r ∷ p)) (r ∷ p) (latest (mrs_to m) p)) i;
     written = registers-next C h (λ m. has (mrs_to m) p) (λ m. has (mrs_to m) (r ∷ p)) true (λ m. or_is (mrs_to m (r ∷ p)) (has (mrs_to m) p)) i;
@@ -258,8 +240,8 @@ module _ (r : Record) (p : Past) where
       slow : Bool
       slow = edges.slow_now (banks_of C p) (device_of C p)
 
-      turn : changing (command (r ∷ p)) ≡ turns (r ∷ p)
-      turn = sym (turns-changes r p far ∙ changes-are r p (not-bad C r p h))
+      turn : changing (command (r ∷ p)) ≡ changes (r ∷ p)
+      turn = sym (changes-are r p (not-bad C r p h))
 
       exit : is Pdx (r ∷ p) && edges.slow_now (banks_of C p) (device_of C p) ≡ slow_exit C (r ∷ p)
       exit = slow-is C (clean-tail C r p h)

@@ -19,7 +19,7 @@ use Rattle.running.specs.Deadlines as running
 use Rattle.edges.specs.Says.{next24, next25, next28, next31, soonest_of, owing, says_by, says_of}
 use Rattle.rules.specs.Past.{Past, edge, number, cke, asleep, command, is, latest}
 use Rattle.rules.specs.Down.{turned, down}
-use Rattle.rules.specs.Rules.{checks, change_checks, exit_checks, break_at, order_checks}
+use Rattle.rules.specs.Rules.{checks, change_checks, exit_checks, break_at}
 use Rattle.rules.specs.Deadlines.{owed_to}
 use Rattle.rules.specs.Verdict.{clean, stop, keep, told, verdict_to, Apart}
 use Rattle.rules.proofs.Facts.{Sound}
@@ -32,7 +32,7 @@ use Rattle.rules.proofs.Numbered.{in_order}
 use Rattle.rules.proofs.Edges.{verdict-same, clean-past, gap-says, late-between, small-owed, near-stay, near-ref, at-record, late-at}
 use Rattle.rules.proofs.Turn.{said, passing, said-in-order, sooner-first}
 use Rattle.carries.proofs.Summary.{debt_of, banks_of, device_of, summary}
-use Rattle.carries.proofs.Broken.{broken-in, changed-in, left_in_lem, ordered-in}
+use Rattle.carries.proofs.Broken.{broken-in, changed-in, left_in_lem}
 use Rattle.carries.proofs.Gap.{next24-is, next28-is, next31-is, due-next, owing-is}
 
 sooner-second : (x y : Late) → (sooner x y).at ≤ y.at
@@ -45,33 +45,33 @@ sooner-second x y = go (leb x.at y.at) refl
 
 -- w, v, u, q: what passes at e of rules 24, 25, 28 and 31
 says-said :
-    (e n : ℕ) (x24 x25 x28 x31 : Late) (b o d f g w v u q : Break)
+    (e n : ℕ) (x24 x25 x28 x31 : Late) (b o d f w v u q : Break)
     → (e ≤ x24.at → late_at e x24 ≡ w) → (e ≤ x25.at → o ≡ v) → (e ≤ x28.at → late_at e x28 ≡ u) → (e ≤ x31.at → late_at e x31 ≡ q)
-    → says_by e n x24 x25 x28 x31 b o d f g
-    ≡ said (keep (passing (soonest_of x24 x25 x28 x31) e) (in_order (told e n b) (told e 0 w) (told e 0 v) (told e n d) (told e 0 u) (told e n f) (told e 0 q) (told e n g)))
+    → says_by e n x24 x25 x28 x31 b o d f
+    ≡ said (keep (passing (soonest_of x24 x25 x28 x31) e) (in_order (told e n b) (told e 0 w) (told e 0 v) (told e n d) (told e 0 u) (told e n f) (told e 0 q)))
 unfolding says_by keep
-says-said e n x24 x25 x28 x31 b o d f g w v u q h j k m = go (ltb (soonest_of x24 x25 x28 x31).at e) refl
+says-said e n x24 x25 x28 x31 b o d f w v u q h g k m = go (ltb (soonest_of x24 x25 x28 x31).at e) refl
   where
     rest : Verdict
     rest =
         first (verdict_at e n b) (first (verdict_at e 0 (late_at e x24)) (first (verdict_at e 0 o)
-        (first (verdict_at e n d) (first (verdict_at e 0 (late_at e x28)) (first (verdict_at e n f) (first (verdict_at e 0 (late_at e x31)) (verdict_at e n g)))))))
+        (first (verdict_at e n d) (first (verdict_at e 0 (late_at e x28)) (first (verdict_at e n f) (verdict_at e 0 (late_at e x31)))))))
 
     go :
         (x : Bool) → ltb (soonest_of x24 x25 x28 x31).at e ≡ x
         → cond x (said (stop (soonest_of x24 x25 x28 x31).at 0 (why (soonest_of x24 x25 x28 x31)))) rest
         ≡ said (keep (cond x (stop (soonest_of x24 x25 x28 x31).at 0 (why (soonest_of x24 x25 x28 x31))) clean)
-        (in_order (told e n b) (told e 0 w) (told e 0 v) (told e n d) (told e 0 u) (told e n f) (told e 0 q) (told e n g)))
+        (in_order (told e n b) (told e 0 w) (told e 0 v) (told e n d) (told e 0 u) (told e n f) (told e 0 q)))
     go true y = refl
     go false z =
         let l : e ≤ (soonest_of x24 x25 x28 x31).at = ltb-false _ _ z in
         let l25 = sooner-second x24 (sooner x25 (sooner x28 x31)) in
         let l28 = sooner-second x25 (sooner x28 x31) in
         (λ i. first (verdict_at e n b) (first (verdict_at e 0 (h (omega (arith, sooner-first x24 (sooner x25 (sooner x28 x31)))) i))
-        (first (verdict_at e 0 (j (omega (arith, sooner-first x25 (sooner x28 x31))) i))
+        (first (verdict_at e 0 (g (omega (arith, sooner-first x25 (sooner x28 x31))) i))
         (first (verdict_at e n d) (first (verdict_at e 0 (k (omega (arith, sooner-first x28 x31)) i))
-        (first (verdict_at e n f) (first (verdict_at e 0 (m (omega (arith, sooner-second x28 x31)) i)) (verdict_at e n g))))))))
-        ∙ said-in-order e n b w v d u f q g
+        (first (verdict_at e n f) (verdict_at e 0 (m (omega (arith, sooner-second x28 x31)) i))))))))
+        ∙ said-in-order e n b w v d u f q
 
 module _ (C : Chip) (S : Sound C) (r : Record) (p : Past) where
   abbrev e : ℕ
@@ -94,18 +94,17 @@ module _ (C : Chip) (S : Sound C) (r : Record) (p : Past) where
 
   says-parts : 1 ≤ r.step → Apart p → verdict_to C p (edge p) ≡ clean
       → says_of C (summary C p) r
-      ≡ says_by e n x24 x25 x28 x31 (break_at (checks C) r p) (owing (command (r ∷ p)) e x25) (break_at (change_checks C) r p) (break_at (exit_checks C) r p) (break_at (order_checks C) r p)
+      ≡ says_by e n x24 x25 x28 x31 (break_at (checks C) r p) (owing (command (r ∷ p)) e x25) (break_at (change_checks C) r p) (break_at (exit_checks C) r p)
   unfolding says_of summary device_of debt_of
   says-parts far apart z =
       let h = clean-past C p apart z in
-      λ i. says_by e n x24 x25 x28 x31 (broken-in C S r p h apart i) (owing (command (r ∷ p)) e x25) (changed-in C S r p h apart far i) (left_in_lem C S r p h apart far i)
-      (ordered-in C S r p h apart far i)
+      λ i. says_by e n x24 x25 x28 x31 (broken-in C S r p h i) (owing (command (r ∷ p)) e x25) (changed-in C S r p h far i) (left_in_lem C S r p h far i)
 
   -- after a clean past what is said of the gap before the record and of its edge is what the rules say
   pub says_is : 1 ≤ r.step → Apart p → verdict_to C p (edge p) ≡ clean → says_of C (summary C p) r ≡ said (verdict_to C (r ∷ p) (edge (r ∷ p)))
   says_is far apart z =
       says-parts far apart z
-      ∙ says-said e n x24 x25 x28 x31 (break_at (checks C) r p) (owing (command (r ∷ p)) e x25) (break_at (change_checks C) r p) (break_at (exit_checks C) r p) (break_at (order_checks C) r p) (now24 C p e)
+      ∙ says-said e n x24 x25 x28 x31 (break_at (checks C) r p) (owing (command (r ∷ p)) e x25) (break_at (change_checks C) r p) (break_at (exit_checks C) r p) (now24 C p e)
       (running.owing (owed_to C.trefi (r ∷ p)) (number (latest (is Ref) (r ∷ p)))) (now28 C p e) (now31 C p e) at24 (owing-is C p S.refi-least small r) at28 at31
       ∙ ap said (sym (verdict-next C (r ∷ p) e (omega arith) ∙ (λ i. keep (gap i) (at-record C S.refi-least r p far i))))
     where

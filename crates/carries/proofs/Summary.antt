@@ -1,6 +1,5 @@
 -- The state as edges is a summary of the past: each part of it, looked back for.
 -- Assumes nothing.
-use Rattle.rules.specs.Order.{place}
 use Prim.Native.Nat.{ℕ, ◌+◌, ◌-◌, ◌*◌, ◌%◌}
 use mathlib.Core.Bool.{Bool, cond}
 use mathlib.Core.List.{List, [], ◌∷◌, ◌++◌}
@@ -134,5 +133,4 @@ module _ (C : Chip) where
         waits = waits_of p;
         acts = acts_of p;
         device = device_of p;
-        place = place p;
       }

@@ -1,8 +1,5 @@
 -- The views of the summary: the marks of a bank, the ring of ACTs and the device's marks are what the rules' summary keeps.
 -- Assumes nothing.
-use Rattle.rules.proofs.Rising.{risen-mark}
-use Rattle.rules.specs.Verdict.{Apart}
-use Rattle.rules.specs.Order.{place}
 use Prim.Native.Nat.{ℕ, zero, suc, ◌+◌, ◌-◌, ◌%◌, ◌≤◌, ◌<◌}
 use native.Mathlib.Omega.{arith}
 use mathlib.Core.Path.{◌≡◌, refl, sym, ap, ◌∙◌, fun_ext}
@@ -185,14 +182,13 @@ module _ (C : Chip) (p : Past) where
       go true y = some-mark 512 (latest (is Srx) p) (omega (arith, ltb-true (number (latest dll_reset p)) (number (latest (is Srx) p)) y))
       go false n = mark-parts (λ _. 512) (latest dll_reset p)
 
-  pub rests-view : Apart p → rests_of C (place p) (device_of C p) ≡ rests C p
+  pub rests-view : rests_of (device_of C p) ≡ rests C p
   unfolding rests_of device_of rests
-  rests-view apart = λ i. record {
+  rests-view = λ i. record {
     refreshed = mark-parts (λ _. C.trfc) (latest (is Ref) p) i;
     tuned = mark-parts (need18 C) (latest (is Zq) p) i;
     reset = reset-view i;
     woke = mark-parts (λ _. C.txs) (latest (is Srx) p) i;
-    risen = risen-mark C.txs p apart i;
     slept = mark-parts (λ _. C.tcke + 1) (latest (is Sre) p) i;
     turned = mark-parts (λ _. C.tcke) (turned p) i;
     left = mark-parts (λ _. C.txp) (latest (is Pdx) p) i;

@@ -1,6 +1,5 @@
 -- The waiting times that the state keeps after any recording are those that are promised.
 -- Assumes nothing.
-use Rattle.rules.proofs.UpTo.{apart-up-to}
 use Prim.Native.Nat.{ℕ, ◌-◌, ◌<◌}
 use native.Mathlib.Omega.{arith}
 use mathlib.Core.Path.{◌≡◌, refl, sym, ◌∙◌}
@@ -55,11 +54,11 @@ module _ (C : Chip) where
   time-is q Pdx b l = refl
 
   module _ (S : Sound C) where
-    frozen-waited : (p q : Past) (v : Verdict) → Clean C q → Apart q → Waited C (frozen C p q v) q
+    frozen-waited : (p q : Past) (v : Verdict) → Clean C q → Waited C (frozen C p q v) q
     unfolding frozen
-    frozen-waited p q v h apart =
+    frozen-waited p q v h =
         record {
-          afresh = λ c b l. time-is q c b l ∙ sym (wait-view C q h apart c b l ∙ waits-afresh C S q h c b l);
+          afresh = λ c b l. time-is q c b l ∙ sym (wait-view C q h c b l ∙ waits-afresh C S q h c b l);
           look-back = time-is q;
           allow = λ r. rw (wait-at C r q) (waits-allow C S r q);
         }
@@ -67,4 +66,4 @@ module _ (C : Chip) where
     -- after any recording
     pub waited-carried : (p : Past) → Apart p → Waited C (carried C p) (standing C p)
     unfolding carried_by
-    waited-carried p apart = frozen-waited p (standing C p) _ (clean-standing p apart) (apart-up-to (rest (verdict_to C p (edge p)) (edge p)) p apart)
+    waited-carried p apart = frozen-waited p (standing C p) _ (clean-standing p apart)

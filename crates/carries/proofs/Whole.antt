@@ -1,7 +1,5 @@
 -- The whole recording: the state as edges after any records is a function of the recording.
 -- Assumes nothing.
-use Rattle.rules.specs.Order.{place}
-use mathlib.Core.Logic.{inl}
 use Prim.Native.Nat.{ℕ, ◌-◌, ◌≤◌, ◌<◌}
 use native.Mathlib.Omega.{arith}
 use mathlib.Core.Path.{◌≡◌, refl, sym, ap, ◌∙◌}
@@ -15,8 +13,8 @@ use Rattle.chip.specs.declared.Chip.{Chip}
 use Rattle.running.specs.Said.{no_verdict, clean_at, is_clean}
 use Rattle.edges.specs.declared.Rank.{Rank}
 use Rattle.edges.specs.Step.{moved_of, stopped_of, step_of, fold_of, so_far}
-use Rattle.edges.specs.Ends.{start_rank, risen_rank}
-use Rattle.rules.specs.Past.{Past, edge, number, cke, up_to, rise}
+use Rattle.edges.specs.Ends.{start_rank}
+use Rattle.rules.specs.Past.{Past, edge, number, cke, up_to}
 use Rattle.rules.specs.Verdict.{Outcome, clean, stop, verdict_to, shown, verdict_so_far, rest, Apart, Steps}
 use Rattle.rules.proofs.Facts.{Sound}
 use Rattle.rules.proofs.Sense.{stays-to, stop-at, stop-after}
@@ -24,7 +22,7 @@ use Rattle.rules.proofs.UpTo.{up-to-all, up-to-skip, up-to-before}
 use Rattle.rules.proofs.Edges.{verdict-same, clean-past, small-owed, near-ref}
 use Rattle.rules.proofs.Turn.{said}
 use Rattle.carries.proofs.Summary.{acts_of, debt_of, banks_of, waits_of, device_of, summary}
-use Rattle.carries.proofs.Moved.{moved-summary, summary-fresh, summary-risen}
+use Rattle.carries.proofs.Moved.{moved-summary, summary-fresh}
 use Rattle.carries.proofs.Says.{says_is}
 
 -- the state that counts the records of p, keeps the summary of q and says v
@@ -40,7 +38,6 @@ frozen C p q v =
       waits = waits_of C q;
       acts = acts_of q;
       device = device_of C q;
-      place = place q;
     }
 
 -- The state after the recording p, of which the rules say v: all of p is counted, and what is kept is kept of the records before the
@@ -79,8 +76,8 @@ module _ (C : Chip) (S : Sound C) where
       go : (v : Outcome) → verdict_to C (r ∷ p) (edge (r ∷ p)) ≡ v → by (said v) ≡ carried_by C v (r ∷ p)
       go clean e =
           let pos = S.refi-least in
-          moved-summary C pos r p far (clean-past C (r ∷ p) (inl far, apart) e) (small-owed C pos p apart z) (small-owed C pos (r ∷ p) (inl far, apart) e)
-          (near-ref C (r ∷ p) (inl far, apart) e)
+          moved-summary C pos r p (clean-past C (r ∷ p) (far, apart) e) (small-owed C pos p apart z) (small-owed C pos (r ∷ p) (far, apart) e)
+          (near-ref C (r ∷ p) (far, apart) e)
           ∙ sym (carried-clean C (r ∷ p))
       go (stop t n b) e =
           let w = stop-at C (r ∷ p) (edge (r ∷ p)) t n b e in
@@ -111,17 +108,12 @@ module _ (C : Chip) (S : Sound C) where
   pub fold-carried : (rs : List Record) (p : Past) → Steps rs → Apart p → fold_of C (carried C p) rs ≡ carried C (reverse_aux rs p)
   fold-carried [] p s apart = refl
   fold-carried (r ∷ rs) p s apart =
-      ap (λ x. fold_of C x rs) (step-carried r p s.0 apart) ∙ fold-carried rs (r ∷ p) s.1 (inl s.0, apart)
+      ap (λ x. fold_of C x rs) (step-carried r p s.0 apart) ∙ fold-carried rs (r ∷ p) s.1 (s.0, apart)
 
 -- before the first record
 pub start-carried : (C : Chip) → start_rank C ≡ carried C []
 unfolding verdict_to
 start-carried C = summary-fresh C ∙ sym (carried-clean C [])
-
--- behind the rise that ends a reset
-pub risen-carried : (C : Chip) → risen_rank C ≡ carried C (rise ∷ [])
-unfolding verdict_to
-risen-carried C = summary-risen C ∙ sym (carried-clean C (rise ∷ []))
 
 -- the verdict so far
 pub so-far-carried : (C : Chip) (p : Past) → so_far (carried C p) ≡ verdict_so_far C p

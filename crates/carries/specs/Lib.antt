@@ -1,3 +1,2 @@
 -- What is promised of the waiting times that a state keeps.
 pub mod Waited
-pub mod Lines

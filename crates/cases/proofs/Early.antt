@@ -18,7 +18,7 @@ use Rattle.answers.specs.declared.Verdict.{Verdict}
 use Rattle.rules.specs.Past.{Past, number, up_to}
 use Rattle.rules.specs.Banks.{status}
 use Rattle.answers.specs.Answer.{or_else, lowest}
-use Rattle.rules.specs.Rules.{checks, change_checks, exit_checks, break_at, order_checks}
+use Rattle.rules.specs.Rules.{checks, change_checks, exit_checks, break_at}
 use Rattle.rules.specs.Deadlines.{late, rule25, rule28, rule31}
 use Rattle.rules.specs.Verdict.{Outcome, clean, keep, told, record_says, verdict_to, shown, shown_verdict}
 use Rattle.rules.proofs.Numbered.{behind, in_order, by_number}
@@ -40,7 +40,7 @@ module _ (C : Chip) (p : Past) where
   early (suc t) =
       keep (early t) (keep (record_says (break_at (checks C)) p (suc t)) (keep (told (suc t) 0 (rule25 C p (suc t)))
       (behind (record_says (break_at (change_checks C)) p (suc t)) (told (suc t) 0 (rule28 C p (suc t))) (record_says (break_at (exit_checks C)) p (suc t))
-      (told (suc t) 0 (rule31 C p (suc t))) (record_says (break_at (order_checks C)) p (suc t)))))
+      (told (suc t) 0 (rule31 C p (suc t))))))
 
   early-verdict : (t : ℕ) → t ≤ C.most → verdict_to C p t ≡ early t
   unfolding verdict_to early keep
@@ -48,8 +48,7 @@ module _ (C : Chip) (p : Past) where
   early-verdict (suc t) l =
       (λ i. keep (early-verdict t (omega arith) i) (by_number C p (suc t) i))
       ∙ ap (λ b. keep (early t) (in_order (record_says (break_at (checks C)) p (suc t)) (told (suc t) 0 b) (told (suc t) 0 (rule25 C p (suc t)))
-      (record_says (break_at (change_checks C)) p (suc t)) (told (suc t) 0 (rule28 C p (suc t))) (record_says (break_at (exit_checks C)) p (suc t)) (told (suc t) 0 (rule31 C p (suc t)))
-      (record_says (break_at (order_checks C)) p (suc t))))
+      (record_says (break_at (change_checks C)) p (suc t)) (told (suc t) 0 (rule28 C p (suc t))) (record_says (break_at (exit_checks C)) p (suc t)) (told (suc t) 0 (rule31 C p (suc t)))))
       (none-late C.most (suc t) 8 (λ n. status C n (up_to (suc t - 1) p) (suc t - 1)) l)
 
 pub judged-early : (h : Header) (bytes : List ℕ) (end : ℕ) (v : Verdict) → leb end (chip_of h).most ≡ true

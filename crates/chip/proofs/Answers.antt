@@ -1,20 +1,15 @@
 -- One answer for each public contract.
 -- Assumes nothing.
 use Prim.Native.Nat.{ℕ}
-use mathlib.Core.Bool.{Bool}
 use Rattle.laws.proofs.Unique.{Unique, one_answer}
 use Rattle.header.specs.declared.Header.{Header}
 use Rattle.chip.specs.declared.Regs.{Regs}
-use Rattle.chip.specs.declared.Chip.{Chip}
-use Rattle.chip.specs.Chip.{chip_of, chip_for}
+use Rattle.chip.specs.Chip.{chip_of}
 use Rattle.chip.specs.Latencies.{b_of}
-use Rattle.chip.specs.Promises.{ChipOf, ChipFor, InForce, BOf}
+use Rattle.chip.specs.Promises.{ChipOf, InForce, BOf}
 
 pub chip-unique : (h : Header) → Unique (ChipOf h)
 chip-unique h = one_answer (chip_of h)
-
-pub chip-for-unique : (first : Bool) (c : Chip) → Unique (ChipFor first c)
-chip-for-unique first c = one_answer (chip_for first c)
 
 -- of al_of, clOf, cwl_of, wr_of and h_of
 pub in-force-unique : (number : Regs → ℕ) (g : Regs) → Unique (InForce number g)

@@ -4,7 +4,7 @@ mod part;
 
 use header::Header;
 pub use latencies::{al_of, b_of, cl_of, cwl_of, h_of, wr_of};
-pub use part::{chip_for, chip_of};
+pub use part::chip_of;
 
 // most: greatest t_ras. nine: nine times t_refi, which rules 28 and 31 ask for.
 #[derive(Drop)]

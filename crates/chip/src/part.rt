@@ -1,6 +1,6 @@
 // Here `Clocks` become plain numbers, of 32 bits: no count is above 80,000,000.
 ghost use Rattle.std.specs.Prelude.{◌≡◌, ◌≤◌};
-ghost use Rattle.chip.specs.Promises.{ChipOf, ChipFor};
+ghost use Rattle.chip.specs.Promises.{ChipOf};
 
 use crate::Chip;
 use header::Header;
@@ -32,20 +32,6 @@ pub fn chip_of(h: Header) -> Chip
         txpdll: plain(h.txpdll()),
         nine: plain(h.ninerefi()),
     }
-}
-
-// As a ZQ finds it: the first after power-up has a time of its own.
-pub fn chip_for(c: Chip, first: bool) -> Chip
-    ensures { ChipFor first c result }
-{
-    if first {
-        let n = plain(c.header.zqinit());
-        let mut x = c;
-        x.zqlong = n;
-        x.zqshort = n;
-        return x;
-    }
-    c
 }
 
 fn plain(c: Clocks) -> u32

@@ -11,8 +11,6 @@ use Rattle.records.specs.Command.{a10}
 use Rattle.chip.specs.declared.Chip.{Chip}
 use Rattle.chip.specs.declared.Regs.{Regs}
 use Rattle.running.specs.Next.{resets_now, start_now}
-use Rattle.running.specs.Order.{ordering}
-use Rattle.running.proofs.Ordering.{place-stays}
 use Rattle.edges.specs.declared.Banks.{Banks}
 use Rattle.edges.specs.declared.Waits.{Waits}
 use Rattle.edges.specs.declared.Acts.{Acts}
@@ -24,7 +22,6 @@ use Rattle.edges.specs.Says.{command_in}
 use Rattle.edges.specs.Step.{moved_of, regs_in}
 use Rattle.edges.specs.Floors.{settled}
 use Rattle.edges.specs.Ways.{raised_floor, rd_floor, shut_all_floor, floor_next}
-use Rattle.edges.proofs.Tuning.{tuned-stays}
 use Rattle.edges.proofs.Raising.{Raises, waits-under}
 use Rattle.edges.proofs.Ways.{Sized, nop-raises, des-raises, low-raises, pde-raises}
 use Rattle.edges.proofs.Seldom.{holding, ref-raises, zq-raises, srx-raises, mrs-raises, reset-raises, pdx-raises, slow-raises, sre-raises, all-raises}
@@ -108,13 +105,12 @@ module _ (C : Chip) (s : Rank) (f : Floor) (r : Record) where
         waits = W;
         acts = s.acts;
         device = device_next C c r e n slow s.device;
-        place = s.place;
       }
 
-  changed-as : ordering s.place ≡ false → (c : Command) (f' : Floor) (W : Waits) → command_in s r ≡ c → banks_next C c r e n g s.banks ≡ s.banks → acts_next c e n s.acts ≡ s.acts
+  changed-as : (c : Command) (f' : Floor) (W : Waits) → command_in s r ≡ c → banks_next C c r e n g s.banks ≡ s.banks → acts_next c e n s.acts ≡ s.acts
       → Raises C c r e g (start c) four slow f f' s.waits W → moved_of C (settled f s) r ≡ settled f' (changed c W)
   unfolding moved_of settled
-  changed-as o c f' W h b a w = rw (h, tuned-stays C s.place o) (λ i. record {
+  changed-as c f' W h b a w = rw h (λ i. record {
     edge = e;
     count = n;
     first = s.first;
@@ -124,34 +120,33 @@ module _ (C : Chip) (s : Rank) (f : Floor) (r : Record) where
     waits = waits-under C c r e g (start c) four slow f f' s.waits W w i;
     acts = a i;
     device = device_next C c r e n slow s.device;
-    place = place-stays c s.place o i;
   })
 
-  pub whole-moves : Sized s.waits → ordering s.place ≡ false → (c : Command) → Whole c → command_in s r ≡ c
+  pub whole-moves : Sized s.waits → (c : Command) → Whole c → command_in s r ≡ c
       → moved_of C (settled f s) r ≡ settled (floor_next C c r slow e f) (changed c (holding C r e g (start c) four slow f s.waits c))
   unfolding banks_next acts_next
-  whole-moves size o c is-ref h = changed-as o Ref _ _ h refl refl (ref-raises C r e g (start Ref) four slow f s.waits)
-  whole-moves size o c is-zq h = changed-as o Zq _ _ h refl refl (zq-raises C r e g (start Zq) four slow f s.waits)
-  whole-moves size o c is-srx h = changed-as o Srx _ _ h refl refl (srx-raises C r e g (start Srx) four slow f s.waits)
-  whole-moves size o c is-sre h = changed-as o Sre _ _ h refl refl (sre-raises C r e g (start Sre) four slow f s.waits)
-  whole-moves size o c is-nop h = changed-as o Nop _ _ h refl refl (nop-raises C r e g (start Nop) four slow f s.waits size)
-  whole-moves size o c is-des h = changed-as o Des _ _ h refl refl (des-raises C r e g (start Des) four slow f s.waits size)
-  whole-moves size o c is-low h = changed-as o Low _ _ h refl refl (low-raises C r e g (start Low) four slow f s.waits size)
-  whole-moves size o c is-pde h = changed-as o Pde _ _ h refl refl (pde-raises C r e g (start Pde) four slow f s.waits size)
-  whole-moves size o c is-pdx h = go slow refl
+  whole-moves size c is-ref h = changed-as Ref _ _ h refl refl (ref-raises C r e g (start Ref) four slow f s.waits)
+  whole-moves size c is-zq h = changed-as Zq _ _ h refl refl (zq-raises C r e g (start Zq) four slow f s.waits)
+  whole-moves size c is-srx h = changed-as Srx _ _ h refl refl (srx-raises C r e g (start Srx) four slow f s.waits)
+  whole-moves size c is-sre h = changed-as Sre _ _ h refl refl (sre-raises C r e g (start Sre) four slow f s.waits)
+  whole-moves size c is-nop h = changed-as Nop _ _ h refl refl (nop-raises C r e g (start Nop) four slow f s.waits size)
+  whole-moves size c is-des h = changed-as Des _ _ h refl refl (des-raises C r e g (start Des) four slow f s.waits size)
+  whole-moves size c is-low h = changed-as Low _ _ h refl refl (low-raises C r e g (start Low) four slow f s.waits size)
+  whole-moves size c is-pde h = changed-as Pde _ _ h refl refl (pde-raises C r e g (start Pde) four slow f s.waits size)
+  whole-moves size c is-pdx h = go slow refl
     where
       go : (x : Bool) → slow ≡ x
           → moved_of C (settled f s) r
           ≡ settled (cond x (rd_floor (raised_floor f (e + C.txp)) (e + C.txpdll)) (raised_floor f (e + C.txp))) (changed Pdx (holding C r e g (start Pdx) four slow f s.waits Pdx))
-      go true z = changed-as o Pdx _ _ h (pdx-banks C r e n g s.banks) (pdx-acts e n s.acts) (slow-raises C r e g (start Pdx) four slow f s.waits z)
-      go false z = changed-as o Pdx _ _ h (pdx-banks C r e n g s.banks) (pdx-acts e n s.acts) (pdx-raises C r e g (start Pdx) four slow f s.waits z)
-  whole-moves size o c is-mrs h = go (resets_now Mrs r) refl
+      go true z = changed-as Pdx _ _ h (pdx-banks C r e n g s.banks) (pdx-acts e n s.acts) (slow-raises C r e g (start Pdx) four slow f s.waits z)
+      go false z = changed-as Pdx _ _ h (pdx-banks C r e n g s.banks) (pdx-acts e n s.acts) (pdx-raises C r e g (start Pdx) four slow f s.waits z)
+  whole-moves size c is-mrs h = go (resets_now Mrs r) refl
     where
       go : (x : Bool) → resets_now Mrs r ≡ x
           → moved_of C (settled f s) r
           ≡ settled (cond x (rd_floor (raised_floor f (e + C.tmod)) (e + 512)) (raised_floor f (e + C.tmod))) (changed Mrs (holding C r e g (start Mrs) four slow f s.waits Mrs))
-      go true z = changed-as o Mrs _ _ h (mrs-banks C r e n g s.banks) (mrs-acts e n s.acts) (reset-raises C r e g (start Mrs) four slow f s.waits z)
-      go false z = changed-as o Mrs _ _ h (mrs-banks C r e n g s.banks) (mrs-acts e n s.acts) (mrs-raises C r e g (start Mrs) four slow f s.waits z)
+      go true z = changed-as Mrs _ _ h (mrs-banks C r e n g s.banks) (mrs-acts e n s.acts) (reset-raises C r e g (start Mrs) four slow f s.waits z)
+      go false z = changed-as Mrs _ _ h (mrs-banks C r e n g s.banks) (mrs-acts e n s.acts) (mrs-raises C r e g (start Mrs) four slow f s.waits z)
 
   -- a PRE of all banks
   abbrev pub shut_all : Banks
@@ -170,12 +165,12 @@ module _ (C : Chip) (s : Rank) (f : Floor) (r : Record) where
         shutno = table (λ _. n);
       }
 
-  pub all-moves : ordering s.place ≡ false → command_in s r ≡ Pre → a10 r ≡ true
+  pub all-moves : command_in s r ≡ Pre → a10 r ≡ true
       → moved_of C (settled f s) r
       ≡ settled (shut_all_floor f (e + C.trp))
-      (record { edge = e; count = n; first = s.first; level = r.cke; debt = s.debt; banks = shut_all; waits = s.waits; acts = s.acts; device = s.device; place = s.place })
+      (record { edge = e; count = n; first = s.first; level = r.cke; debt = s.debt; banks = shut_all; waits = s.waits; acts = s.acts; device = s.device })
   unfolding moved_of settled banks_next acts_next debt_next device_next start_now
-  all-moves o h z = rw (h, tuned-stays C s.place o) (λ i. record {
+  all-moves h z = rw h (λ i. record {
     edge = e;
     count = n;
     first = s.first;
@@ -185,5 +180,4 @@ module _ (C : Chip) (s : Rank) (f : Floor) (r : Record) where
     waits = waits-under C Pre r e g (start Pre) four slow f (shut_all_floor f (e + C.trp)) s.waits s.waits (all-raises C r e g (start Pre) four slow f s.waits z) i;
     acts = s.acts;
     device = s.device;
-    place = place-stays Pre s.place o i;
   })

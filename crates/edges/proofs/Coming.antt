@@ -2,7 +2,7 @@
 -- Assumes nothing.
 use Prim.Native.Nat.{ℕ, zero, suc, ◌+◌, ◌≤◌, ◌<◌, max}
 use native.Mathlib.Omega.{arith}
-use mathlib.Core.Bool.{Bool, true, false, cond}
+use mathlib.Core.Bool.{Bool, true, cond}
 use mathlib.Core.List.{List}
 use mathlib.Core.Logic.{inl, inr, ⊎_elim}
 use mathlib.Core.Path.{◌≡◌, refl, ◌∙◌}
@@ -15,7 +15,6 @@ use Rattle.records.specs.declared.Command.{Command}
 use Rattle.records.specs.declared.Command.TheVariants.{Mrs, Ref, Pre, Act, Wr, Rd, Zq, Nop, Des, Sre, Srx, Low, Bad, Pde, Pdx}
 use Rattle.records.specs.Command.{is_a, a10}
 use Rattle.chip.specs.declared.Chip.{Chip}
-use Rattle.running.specs.Order.{ordering}
 use Rattle.edges.specs.declared.Waits.{Waits}
 use Rattle.edges.specs.declared.Floor.{Floor}
 use Rattle.edges.specs.declared.Rank.{Rank}
@@ -107,14 +106,13 @@ module _ (C : Chip) (d : Rest) (t : Track) (r : Record) where
 
   -- what it leaves behind; a PRE of all banks shuts them
   abbrev pub next_rest : Command → Rest
-  next_rest c = rest_by r.cke (debt_next C c e d.debt) (holds_next C c r e d.holds) (device_next C c r e n slow d.device) (record { first = d.first; place = d.place })
+  next_rest c = rest_by r.cke (debt_next C c e d.debt) (holds_next C c r e d.holds) (device_next C c r e n slow d.device) d.first
 
   abbrev pub next_track : Command → Track
   next_track c =
       track_after t e n (cond (is_a Pre c) (table (λ _. e)) t.banks.shutat) (cond (is_a Pre c) (table (λ _. n)) t.banks.shutno) (floor_next C c r slow e f)
 
-  module _ (clear : ℕ) (free : Clear C clear d t) (clean : d.first.outcome ≡ 0) (idle : ordering d.place ≡ false) (before : e < clear)
-      (size : Sized s.waits) where
+  module _ (clear : ℕ) (free : Clear C clear d t) (clean : d.first.outcome ≡ 0) (before : e < clear) (size : Sized s.waits) where
     none-due : NoneDue C t.banks t.edge e
     none-due b l = ⊎_elim (λ x. inl x) (λ x. inr (omega (arith, x, before))) (free.due b l)
 
@@ -127,7 +125,7 @@ module _ (C : Chip) (d : Rest) (t : Track) (r : Record) where
 
     step-moves : AllFine C (rank_of d t) r e → step_of C (rank_of d t) r ≡ moved_of C (rank_of d t) r
     unfolding step_of settled
-    step-moves fine = rw (eq-eqb d.first.outcome 0 clean, says_none C (rank_of d t) r none-due not-owed not-long fine idle)
+    step-moves fine = rw (eq-eqb d.first.outcome 0 clean, says_none C (rank_of d t) r none-due not-owed not-long fine)
 
     idling : {a : ℕ} {b : ℕ} → Rested t.banks.actno t.banks.shutat t.banks.shutno a b e → (x : ℕ) → x < 8 → Idling C t.banks x e
     idling q x l = (q.all.closed x l, q.all.over x l)
@@ -152,7 +150,7 @@ module _ (C : Chip) (d : Rest) (t : Track) (r : Record) where
     fine-as Rd h m = absurd m
     fine-as Wr h m = absurd m
     fine-as Bad h m = absurd m
-    fine-as Pde h m = pde-fine C (rank_of d t) r e h (entered-fine C t.banks t.acts d.device e m.0 d.place) m.1
+    fine-as Pde h m = pde-fine C (rank_of d t) r e h (entered-fine C t.banks t.acts d.device e m.0) m.1
     fine-as Pdx h m = pdx-fine C (rank_of d t) r e h m
 
     -- a PRE leaves the debt and the device alone
@@ -168,25 +166,24 @@ module _ (C : Chip) (d : Rest) (t : Track) (r : Record) where
           waits = s.waits;
           acts = t.acts;
           device = d.device;
-          place = d.place;
         })
         ≡ rank_of (next_rest Pre) (next_track Pre)
     unfolding debt_next device_next
     pre-same = refl
 
     pub seldom-step : (c : Command) → command_in s r ≡ c → May c → step_of C (rank_of d t) r ≡ rank_of (next_rest c) (next_track c)
-    seldom-step Pre h m = step-moves (fine-as Pre h m) ∙ all-moves C s f r idle h m.0 ∙ pre-same
-    seldom-step Ref h m = step-moves (fine-as Ref h m) ∙ whole-moves C s f r size idle Ref is-ref h
-    seldom-step Zq h m = step-moves (fine-as Zq h m) ∙ whole-moves C s f r size idle Zq is-zq h
-    seldom-step Mrs h m = step-moves (fine-as Mrs h m) ∙ whole-moves C s f r size idle Mrs is-mrs h
-    seldom-step Sre h m = step-moves (fine-as Sre h m) ∙ whole-moves C s f r size idle Sre is-sre h
-    seldom-step Srx h m = step-moves (fine-as Srx h m) ∙ whole-moves C s f r size idle Srx is-srx h
-    seldom-step Nop h m = step-moves (fine-as Nop h m) ∙ whole-moves C s f r size idle Nop is-nop h
-    seldom-step Des h m = step-moves (fine-as Des h m) ∙ whole-moves C s f r size idle Des is-des h
-    seldom-step Low h m = step-moves (fine-as Low h m) ∙ whole-moves C s f r size idle Low is-low h
+    seldom-step Pre h m = step-moves (fine-as Pre h m) ∙ all-moves C s f r h m.0 ∙ pre-same
+    seldom-step Ref h m = step-moves (fine-as Ref h m) ∙ whole-moves C s f r size Ref is-ref h
+    seldom-step Zq h m = step-moves (fine-as Zq h m) ∙ whole-moves C s f r size Zq is-zq h
+    seldom-step Mrs h m = step-moves (fine-as Mrs h m) ∙ whole-moves C s f r size Mrs is-mrs h
+    seldom-step Sre h m = step-moves (fine-as Sre h m) ∙ whole-moves C s f r size Sre is-sre h
+    seldom-step Srx h m = step-moves (fine-as Srx h m) ∙ whole-moves C s f r size Srx is-srx h
+    seldom-step Nop h m = step-moves (fine-as Nop h m) ∙ whole-moves C s f r size Nop is-nop h
+    seldom-step Des h m = step-moves (fine-as Des h m) ∙ whole-moves C s f r size Des is-des h
+    seldom-step Low h m = step-moves (fine-as Low h m) ∙ whole-moves C s f r size Low is-low h
     seldom-step Act h m = absurd m
     seldom-step Rd h m = absurd m
     seldom-step Wr h m = absurd m
     seldom-step Bad h m = absurd m
-    seldom-step Pde h m = step-moves (fine-as Pde h m) ∙ whole-moves C s f r size idle Pde is-pde h
-    seldom-step Pdx h m = step-moves (fine-as Pdx h m) ∙ whole-moves C s f r size idle Pdx is-pdx h
+    seldom-step Pde h m = step-moves (fine-as Pde h m) ∙ whole-moves C s f r size Pde is-pde h
+    seldom-step Pdx h m = step-moves (fine-as Pdx h m) ∙ whole-moves C s f r size Pdx is-pdx h

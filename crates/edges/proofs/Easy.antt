@@ -16,9 +16,7 @@ use Rattle.chip.specs.declared.Chip.{Chip}
 use Rattle.running.specs.declared.Late.{Late}
 use Rattle.running.specs.declared.Pick.{Pick}
 use Rattle.running.specs.Late.{sooner}
-use Rattle.running.specs.Order.{ordering}
 use Rattle.running.specs.Said.{no_verdict}
-use Rattle.running.proofs.Ordering.{no-order}
 use Rattle.running.proofs.Soonest.{soonest-none}
 use Rattle.edges.specs.declared.Banks.{Banks}
 use Rattle.edges.specs.declared.Debt.{Debt}
@@ -26,7 +24,7 @@ use Rattle.edges.specs.declared.Device.{Device}
 use Rattle.edges.specs.declared.Rank.{Rank}
 use Rattle.edges.specs.Views.{CKE}
 use Rattle.edges.specs.Clearing.{Staying}
-use Rattle.edges.specs.Says.{dues_of, next24, next25, next28, next31, broken_in, changed_in, left_in, ordered_in, owing, says_by, says_of, command_in, refreshed}
+use Rattle.edges.specs.Says.{dues_of, next24, next25, next28, next31, broken_in, changed_in, left_in, owing, says_by, says_of, command_in, refreshed}
 
 -- no bank comes due after the edge lo and up to e
 abbrev pub NoneDue : Chip → Banks → (lo e : ℕ) → Type 0
@@ -78,10 +76,9 @@ sooner-after e x y l m = go (leb x.at y.at)
     go false = m
 
 none_said :
-    (e n : ℕ) (x y z w : Late) (o g : Break) → x.at ≡ e + 1 → e < y.at → e < z.at → e < w.at → o ≡ Fine → g ≡ Fine
-    → says_by e n x y z w Fine o Fine Fine g ≡ no_verdict
+    (e n : ℕ) (x y z w : Late) (o : Break) → x.at ≡ e + 1 → e < y.at → e < z.at → e < w.at → o ≡ Fine → says_by e n x y z w Fine o Fine Fine ≡ no_verdict
 unfolding says_by
-none_said e n x y z w o g p q k m h u =
+none_said e n x y z w o p q k m h =
     let l = sooner-after e x (sooner y (sooner z w)) (omega arith) (sooner-after e y (sooner z w) q (sooner-after e z w k m)) in
     rw (
       le-ltb (sooner x (sooner y (sooner z w))).at e (omega arith),
@@ -89,13 +86,12 @@ none_said e n x y z w o g p q k m h u =
       ne_eqb z.at e (λ u. omega arith),
       ne_eqb w.at e (λ u. omega arith),
       h,
-      u,
     )
 
 not-owing : (c : Command) (e : ℕ) (x : Late) → e < x.at → owing c e x ≡ Fine
 not-owing c e x l = rw (lt-leb x.at e l)
 
--- a record that breaks none of rules 1 to 30
+-- a record that breaks none of the rules that a record breaks
 pub record AllFine (C : Chip) (s : Rank) (r : Record) (e : ℕ) : Type 0 where
   pub broken : broken_in C s r e ≡ Fine
   pub changed : changed_in C s r e ≡ Fine
@@ -107,12 +103,12 @@ NotLong C s e = Staying s.level s.debt.sleeps (get_or s.device.at CKE 0) C.nine 
 
 pub says_none :
     (C : Chip) (s : Rank) (r : Record) → NoneDue C s.banks s.edge (s.edge + r.step) → NotOwed s.debt (s.edge + r.step)
-    → NotLong C s (s.edge + r.step) → AllFine C s r (s.edge + r.step) → ordering s.place ≡ false → says_of C s r ≡ no_verdict
+    → NotLong C s (s.edge + r.step) → AllFine C s r (s.edge + r.step) → says_of C s r ≡ no_verdict
 unfolding says_of
-says_none C s r u v k w idle =
+says_none C s r u v k w =
     let e = s.edge + r.step in
     let q = not-25 s.debt (refreshed s) e v in
     rw (w.broken, w.changed, w.left) (none_said e (s.count + 1) (next24 C s.banks s.edge (e + 1)) (next25 s.debt (refreshed s) (e + 1))
-    (next28 C s.level s.debt.sleeps s.device (e + 1)) (next31 C s.debt (refreshed s) (e + 1)) (owing (command_in s r) e (next25 s.debt (refreshed s) (e + 1))) (ordered_in s r)
+    (next28 C s.level s.debt.sleeps s.device (e + 1)) (next31 C s.debt (refreshed s) (e + 1)) (owing (command_in s r) e (next25 s.debt (refreshed s) (e + 1)))
     (not-24 C s.banks s.edge e u) q (not-28 C s.level s.debt.sleeps s.device e k) (not-31 C s.debt (refreshed s) e v)
-    (not-owing (command_in s r) e (next25 s.debt (refreshed s) (e + 1)) q) (no-order s.place (command_in s r) r idle))
+    (not-owing (command_in s r) e (next25 s.debt (refreshed s) (e + 1)) q))

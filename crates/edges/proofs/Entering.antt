@@ -48,6 +48,6 @@ module _ (C : Chip) (B : Banks) (A : Acts) (D : Device) (e : ℕ)
   unfolding needing
   set-fine = check-fine e (needing C.tmod (device_mark D MRS)) h.set
 
-  pub entered-fine : (place : ℕ) → rule26 C Pde (kepts_of C B) (shared_of C B A D place) e ≡ Fine
+  pub entered-fine : rule26 C Pde (kepts_of C B) (shared_of C B A D) e ≡ Fine
   unfolding rule26 shared_of later_of
-  entered-fine place = rw (latest-none _ 8 wrote-fine, read-fine, set-fine)
+  entered-fine = rw (latest-none _ 8 wrote-fine, read-fine, set-fine)

@@ -105,7 +105,6 @@ no-floor s h = λ i. record {
       };
   acts = s.acts;
   device = s.device;
-  place = s.place;
 }
 
 -- ── A rank taken apart ──────────────────────────────────────────────────────────────────────

@@ -8,6 +8,7 @@ use mathlib.Core.Path.{◌≡◌, refl, sym, ap, ◌∙◌, subst}
 use lib.ListN.{get_or, length}
 use borrow.Author.Tests.{eqb-false, leb-false}
 use Rattle.laws.specs.Eight.{table}
+use Rattle.answers.specs.declared.Verdict.{Verdict}
 use Rattle.records.specs.declared.Record.{Record}
 use Rattle.records.specs.declared.Command.{Command}
 use Rattle.records.specs.declared.Command.TheVariants.{Mrs, Ref, Pre, Bad, Pdx}
@@ -30,7 +31,7 @@ use Rattle.edges.specs.Clearing.{Off, Clears, Owing, Staying, clear_next}
 use Rattle.edges.specs.Ways.{floor_next}
 use Rattle.edges.specs.Ranges.{farthest}
 use Rattle.edges.specs.Running.{Track, Rest, rank_of, all_written, Standing, Quickly}
-use Rattle.edges.specs.Lane.{Aside, Idly, rest_by, Fit, Clear, Folding, Laning, Smoothly, Leaves, Came, Unmoved}
+use Rattle.edges.specs.Lane.{rest_by, Fit, Clear, Folding, Laning, Smoothly, Leaves, Came, Unmoved}
 use Rattle.edges.proofs.Dues.{due-at, NoneSoon, same-soon, idle-off}
 use Rattle.edges.proofs.Clearing.{off-sooner, next-owed, next-near, next-below}
 use Rattle.edges.proofs.Folding.{Lengths}
@@ -40,10 +41,6 @@ use Rattle.edges.proofs.Keeping.{eight, same_regs, kept-owed, slow-device, slow-
 
 pub by-the-codes : {C : Chip} {g G : Regs} {w : Asks} → Asked C g w → g ≡ G → Asked C G w
 by-the-codes {C = C} {w = w} h e = subst (λ (G : Regs). Asked C G w) e h
-
--- a rank with nothing aside
-abbrev nothing : Aside
-nothing = record { first = no_verdict; place = 0 }
 
 -- by the arrays
 cleared : (C : Chip) (clear : ℕ) (d : Rest) (t : Track)
@@ -58,16 +55,16 @@ pub lane-start : (C : Chip) (bytes : List ℕ) (from : ℕ) (l : Bool) (x : Debt
     → clear ≤ t.edge + C.most + 1 → Owing x clear → Staying l x.sleeps (get_or D.at CKE 0) C.nine clear → (real ≡ true → (b : ℕ) → b < 8 → get_or t.banks.actno b 0 ≤ t.count) → Asked C (regs_of D) w
     → Laning C bytes from l x h D t clear real false w l x h D t from
 lane-start C bytes from l x h D t clear real w fit due near owed stays acting asked = record {
-  each = λ o i.
-      fold_start C (rank_of (rest_by l x h D o) t) from bytes clear real w (rest_by l x h D o) t refl fit (cleared C clear (rest_by l x h D o) t due near owed stays) acting
-      i.clean i.broke i.order asked;
+  each = λ v z k.
+      fold_start C (rank_of (rest_by l x h D v) t) from bytes clear real w (rest_by l x h D v) t refl fit (cleared C clear (rest_by l x h D v) t due near owed stays) acting
+      z k asked;
 }
 
 module _ {C : Chip} {bytes : List ℕ} {from : ℕ} {l₀ : Bool} {x₀ : Debt} {h₀ : List ℕ} {D₀ : Device} {t₀ : Track} where
   module _ {clear : ℕ} {real stale : Bool} {w : Asks} {l : Bool} {x : Debt} {h : List ℕ} {D : Device} {t : Track} {at : ℕ}
       (f : Laning C bytes from l₀ x₀ h₀ D₀ t₀ clear real stale w l x h D t at) where
-    abbrev one : Folding C (rank_of (rest_by l₀ x₀ h₀ D₀ nothing) t₀) from bytes clear real stale w (rest_by l x h D nothing) t at
-    one = f.each nothing (record { clean = refl; broke = omega arith; order = refl })
+    abbrev one : Folding C (rank_of (rest_by l₀ x₀ h₀ D₀ no_verdict) t₀) from bytes clear real stale w (rest_by l x h D no_verdict) t at
+    one = f.each no_verdict refl (omega arith)
 
     pub lane-base : Standing C 0 bytes at t
     lane-base = one.base
@@ -83,7 +80,7 @@ module _ {C : Chip} {bytes : List ℕ} {from : ℕ} {l₀ : Bool} {x₀ : Debt} 
     lane-turned = one.turned
 
     pub lane-out : Smoothly C bytes from l₀ x₀ h₀ D₀ t₀ l x h D t at
-    lane-out = record { fit = record { base = one.base; debt = one.debt; turned = one.turned }; along = λ o i. (f.each o i).along; later = one.later }
+    lane-out = record { fit = record { base = one.base; debt = one.debt; turned = one.turned }; along = λ v z k. (f.each v z k).along; later = one.later }
 
     -- where the next record does not come
     pub lane-unmoved : {sa sn h' : List ℕ} {D' : Device} → Unmoved h D t.banks.shutat t.banks.shutno sa sn h' D'
@@ -94,7 +91,7 @@ module _ {C : Chip} {bytes : List ℕ} {from : ℕ} {l₀ : Bool} {x₀ : Debt} 
     lane-asks : (usual : Bool) (w' : Asks) → (stale && usual ≡ true → Asked C (regs_of D) w') → (stale && usual ≡ false → w' ≡ w)
         → Laning C bytes from l₀ x₀ h₀ D₀ t₀ clear real (stale && not usual) w' l x h D t at
     lane-asks usual w' anew same = record {
-      each = λ o i. let g = f.each o i in record {
+      each = λ v z k. let g = f.each v z k in record {
         along = g.along;
         later = g.later;
         base = g.base;
@@ -102,7 +99,6 @@ module _ {C : Chip} {bytes : List ℕ} {from : ℕ} {l₀ : Bool} {x₀ : Debt} 
         acting = g.acting;
         clean = g.clean;
         broke = g.broke;
-        order = g.order;
         asked = asks stale usual g.asked anew same;
         debt = g.debt;
         turned = g.turned;
@@ -120,21 +116,21 @@ module _ {C : Chip} {bytes : List ℕ} {from : ℕ} {l₀ : Bool} {x₀ : Debt} 
     lane-stands usual = go real usual refl
       where
         go : (a u : Bool) → real ≡ a → Standing C (cond (a && u) clear 0) bytes at t
-        go true true e = quick-stands C (rank_of (rest_by l₀ x₀ h₀ D₀ nothing) t₀) from bytes one e
+        go true true e = quick-stands C (rank_of (rest_by l₀ x₀ h₀ D₀ no_verdict) t₀) from bytes one e
         go true false e = one.base
         go false u e = one.base
 
     went : (usual : Bool) → (usual ≡ true → l ≡ true) → (usual ≡ true → stale ≡ false) → (t' : Track) (at' : ℕ)
         → Quickly C w (all_written D) (written_of D).dll (cond (real && usual) clear 0) bytes t at t' at'
         → Laning C bytes from l₀ x₀ h₀ D₀ t₀ clear real stale w l x h D t' at'
-    went usual high fresh t' at' q = record { each = λ o i. go o (f.each o i) real usual refl refl q }
+    went usual high fresh t' at' q = record { each = λ v z k. go v (f.each v z k) real usual refl refl q }
       where
-        go : (o : Aside) → Folding C (rank_of (rest_by l₀ x₀ h₀ D₀ o) t₀) from bytes clear real stale w (rest_by l x h D o) t at → (a u : Bool) → real ≡ a → usual ≡ u
+        go : (v : Verdict) → Folding C (rank_of (rest_by l₀ x₀ h₀ D₀ v) t₀) from bytes clear real stale w (rest_by l x h D v) t at → (a u : Bool) → real ≡ a → usual ≡ u
             → Quickly C w (all_written D) (written_of D).dll (cond (a && u) clear 0) bytes t at t' at'
-            → Folding C (rank_of (rest_by l₀ x₀ h₀ D₀ o) t₀) from bytes clear real stale w (rest_by l x h D o) t' at'
-        go o g true true e i q = rw (fresh i) (quick-done C (rank_of (rest_by l₀ x₀ h₀ D₀ o) t₀) from bytes g e (high i) w (g.asked (fresh i)) t' at' q)
-        go o g true false e i q = quick-still C (rank_of (rest_by l₀ x₀ h₀ D₀ o) t₀) from bytes g (all_written D) (written_of D).dll w t' at' q
-        go o g false u e i q = quick-still C (rank_of (rest_by l₀ x₀ h₀ D₀ o) t₀) from bytes g (all_written D) (written_of D).dll w t' at' q
+            → Folding C (rank_of (rest_by l₀ x₀ h₀ D₀ v) t₀) from bytes clear real stale w (rest_by l x h D v) t' at'
+        go v g true true e i q = rw (fresh i) (quick-done C (rank_of (rest_by l₀ x₀ h₀ D₀ v) t₀) from bytes g e (high i) w (g.asked (fresh i)) t' at' q)
+        go v g true false e i q = quick-still C (rank_of (rest_by l₀ x₀ h₀ D₀ v) t₀) from bytes g (all_written D) (written_of D).dll w t' at' q
+        go v g false u e i q = quick-still C (rank_of (rest_by l₀ x₀ h₀ D₀ v) t₀) from bytes g (all_written D) (written_of D).dll w t' at' q
 
   -- what the registers ask worked out anew where that is needed, the quick way went as far as it could; u: the next record is a frequent command
   pub lane-quick :
@@ -188,15 +184,15 @@ module _ {C : Chip} {bytes : List ℕ} {from : ℕ} {l₀ : Bool} {x₀ : Debt} 
           is-slow : is_a Pdx c ≡ true → slow ≡ slow_now t.banks D
           is-slow z = left.slowly z ∙ sym (slow-by t.banks D)
 
-          seldom : (o : Aside) → Idly o
-              → Folding C (rank_of (rest_by l₀ x₀ h₀ D₀ o) t₀) from bytes clear' real (stale || is_a Mrs c) w (rest_by r.cke x' h' D' o)
+          seldom : (v : Verdict) → v.outcome ≡ 0 → v.edge ≤ last_edge
+              → Folding C (rank_of (rest_by l₀ x₀ h₀ D₀ v) t₀) from bytes clear' real (stale || is_a Mrs c) w (rest_by r.cke x' h' D' v)
               (track_after t (t.edge + r.step) (t.count + 1) sa sn f') (at + 6)
-          seldom o idly =
-              fold_more C (rank_of (rest_by l₀ x₀ h₀ D₀ o) t₀) from bytes g more r came.is some (rest_by r.cke x' h' D' o) t' clear' (stale || is_a Mrs c) w real (step ∙ same) long
-              free (λ y b i. omega (arith, g.acting y b i)) idly.clean idly.order asks
+          seldom v z u =
+              fold_more C (rank_of (rest_by l₀ x₀ h₀ D₀ v) t₀) from bytes g more r came.is some (rest_by r.cke x' h' D' v) t' clear' (stale || is_a Mrs c) w real (step ∙ same) long
+              free (λ y b i. omega (arith, g.acting y b i)) z asks
             where
-              g : Folding C (rank_of (rest_by l₀ x₀ h₀ D₀ o) t₀) from bytes clear real stale w (rest_by l x h D o) t at
-              g = f.each o idly
+              g : Folding C (rank_of (rest_by l₀ x₀ h₀ D₀ v) t₀) from bytes clear real stale w (rest_by l x h D v) t at
+              g = f.each v z u
 
               t' : Track
               t' = track_after t (t.edge + r.step) (t.count + 1) sa sn f'
@@ -213,8 +209,8 @@ module _ {C : Chip} {bytes : List ℕ} {from : ℕ} {l₀ : Bool} {x₀ : Debt} 
                 ring = g.base.ringsize;
               }
 
-              step : step_of C (rank_of (rest_by l x h D o) t) r ≡ rank_of (next_rest C (rest_by l x h D o) t r c) (next_track C (rest_by l x h D o) t r c)
-              step = seldom-step C (rest_by l x h D o) t r clear g.free idly.clean idly.order before
+              step : step_of C (rank_of (rest_by l x h D v) t) r ≡ rank_of (next_rest C (rest_by l x h D v) t r c) (next_track C (rest_by l x h D v) t r c)
+              step = seldom-step C (rest_by l x h D v) t r clear g.free z before
                   (record { act = g.base.actsize; col = g.base.colsize; pre = g.base.presize }) c (sym came.names) came.may
 
               device : device_next C c r (t.edge + r.step) (t.count + 1) (slow_now t.banks D) D ≡ D'
@@ -223,8 +219,8 @@ module _ {C : Chip} {bytes : List ℕ} {from : ℕ} {l₀ : Bool} {x₀ : Debt} 
               floor : floor_next C c r (slow_now t.banks D) (t.edge + r.step) t.floor ≡ f'
               floor = sym (slow-floor C c r (t.edge + r.step) slow (slow_now t.banks D) t.floor is-slow) ∙ sym left.floor
 
-              same : rank_of (next_rest C (rest_by l x h D o) t r c) (next_track C (rest_by l x h D o) t r c) ≡ rank_of (rest_by r.cke x' h' D' o) t'
-              same = λ i. rank_of (rest_by r.cke (sym left.debt i) (sym left.held i) (device i) o)
+              same : rank_of (next_rest C (rest_by l x h D v) t r c) (next_track C (rest_by l x h D v) t r c) ≡ rank_of (rest_by r.cke x' h' D' v) t'
+              same = λ i. rank_of (rest_by r.cke (sym left.debt i) (sym left.held i) (device i) v)
                   (track_after t (t.edge + r.step) (t.count + 1) (sym left.starts i) (sym left.closers i) (floor i))
 
               good : is_a Bad c ≡ false
@@ -261,8 +257,8 @@ module _ {C : Chip} {bytes : List ℕ} {from : ℕ} {l₀ : Bool} {x₀ : Debt} 
                   λ b k. off-sooner e₁ clear clear₁ _ (next-below C.most C.nine c e₁ came.passes.turned x' clear p q)
                   (same-soon C t.banks t'.banks t.edge e₁ clear (omega arith) refl refl (sym (left.starts ∙ rw q)) (sym (left.closers ∙ rw q)) g.free.due b k)
 
-              free : Clear C clear' (rest_by r.cke x' h' D' o) t'
-              free = subst (λ (z : ℕ). Clear C z (rest_by r.cke x' h' D' o) t') (sym came.passes.clears) (record {
+              free : Clear C clear' (rest_by r.cke x' h' D' v) t'
+              free = subst (λ (z : ℕ). Clear C z (rest_by r.cke x' h' D' v) t') (sym came.passes.clears) (record {
                 due = due (is_a Ref c) (is_a Pre c) refl refl;
                 near = next-near C.most C.nine c e₁ came.passes.turned x' clear (omega (arith, g.free.near));
                 owed = next-owed C.most C.nine c e₁ came.passes.turned x' clear

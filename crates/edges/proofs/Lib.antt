@@ -4,13 +4,11 @@ pub mod Fine
 pub mod Dues
 pub mod Raising
 pub mod Ways
-pub mod Tuning
 pub mod Moving
 pub mod Turning
 pub mod Stands
 pub mod Quick
 pub mod Ranging
-pub mod Rising
 pub mod Loop
 pub mod Seldom
 pub mod Changing

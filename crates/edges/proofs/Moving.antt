@@ -15,8 +15,6 @@ use Rattle.chip.specs.declared.Regs.{Regs}
 use Rattle.running.specs.declared.Asks.{Asks}
 use Rattle.running.specs.Easy.{Asked}
 use Rattle.running.specs.Next.{start_now}
-use Rattle.running.specs.Order.{ordering}
-use Rattle.running.proofs.Ordering.{place-stays}
 use Rattle.running.proofs.Asking.{n4-is, n10-is, n11-is, n13-is, n14-is, n19-is, rd-starts, wr-starts}
 use Rattle.edges.specs.declared.Banks.{Banks}
 use Rattle.edges.specs.declared.Waits.{Waits}
@@ -29,7 +27,6 @@ use Rattle.edges.specs.Says.{command_in}
 use Rattle.edges.specs.Step.{moved_of, regs_in}
 use Rattle.edges.specs.Floors.{settled}
 use Rattle.edges.specs.Ways.{raised_at, shut_floor, column_floor, col_pre, col_turn, col_out, col_start, four_at, act_floor}
-use Rattle.edges.proofs.Tuning.{tuned-stays}
 use Rattle.edges.proofs.Raising.{Raises, waits-under}
 use Rattle.edges.proofs.Ways.{Sized, nop-raises, des-raises, low-raises, act-raises, rd-raises, wr-raises, rd-auto-raises, wr-auto-raises, pre-raises}
 
@@ -72,15 +69,15 @@ module _ (C : Chip) (s : Rank) (f : Floor) (r : Record) where
   -- the rank after a record that leaves the device and the debt alone
   abbrev pub after : Banks → Waits → Acts → Rank
   after B' W' A' =
-      record { edge = e; count = n; first = s.first; level = r.cke; debt = s.debt; banks = B'; waits = W'; acts = A'; device = s.device; place = s.place }
+      record { edge = e; count = n; first = s.first; level = r.cke; debt = s.debt; banks = B'; waits = W'; acts = A'; device = s.device }
 
   -- group by group
   moved_as :
       (c : Command) (f' : Floor) (B' : Banks) (W' : Waits) (A' : Acts) → command_in s r ≡ c → debt_next C c e s.debt ≡ s.debt
       → banks_next C c r e n g B ≡ B' → Raises C c r e g (start c) four slow f f' W W' → acts_next c e n s.acts ≡ A'
-      → device_next C c r e n slow s.device ≡ s.device → ordering s.place ≡ false → moved_of C (settled f s) r ≡ settled f' (after B' W' A')
+      → device_next C c r e n slow s.device ≡ s.device → moved_of C (settled f s) r ≡ settled f' (after B' W' A')
   unfolding moved_of settled
-  moved_as c f' B' W' A' h d b w a v o = rw (h, tuned-stays C s.place o) (λ i. record {
+  moved_as c f' B' W' A' h d b w a v = rw h (λ i. record {
     edge = e;
     count = n;
     first = s.first;
@@ -90,21 +87,20 @@ module _ (C : Chip) (s : Rank) (f : Floor) (r : Record) where
     waits = waits-under C c r e g (start c) four slow f f' W W' w i;
     acts = a i;
     device = v i;
-    place = place-stays c s.place o i;
   })
 
-  module _ (size : Sized s.waits) (idle : ordering s.place ≡ false) where
+  module _ (size : Sized s.waits) where
     pub nop-moves : command_in s r ≡ Nop → moved_of C (settled f s) r ≡ settled f (after B W s.acts)
     unfolding debt_next banks_next acts_next device_next
-    nop-moves h = moved_as Nop f B W s.acts h refl refl (nop-raises C r e g (start Nop) four slow f W size) refl refl idle
+    nop-moves h = moved_as Nop f B W s.acts h refl refl (nop-raises C r e g (start Nop) four slow f W size) refl refl
 
     pub des-moves : command_in s r ≡ Des → moved_of C (settled f s) r ≡ settled f (after B W s.acts)
     unfolding debt_next banks_next acts_next device_next
-    des-moves h = moved_as Des f B W s.acts h refl refl (des-raises C r e g (start Des) four slow f W size) refl refl idle
+    des-moves h = moved_as Des f B W s.acts h refl refl (des-raises C r e g (start Des) four slow f W size) refl refl
 
     pub low-moves : command_in s r ≡ Low → moved_of C (settled f s) r ≡ settled f (after B W s.acts)
     unfolding debt_next banks_next acts_next device_next
-    low-moves h = moved_as Low f B W s.acts h refl refl (low-raises C r e g (start Low) four slow f W size) refl refl idle
+    low-moves h = moved_as Low f B W s.acts h refl refl (low-raises C r e g (start Low) four slow f W size) refl refl
 
     -- a precharge of the record's bank that starts at the edge x
     abbrev pub shut_banks : Banks → (x : ℕ) → Banks
@@ -129,7 +125,7 @@ module _ (C : Chip) (s : Rank) (f : Floor) (r : Record) where
     pub pre-moves : command_in s r ≡ Pre → a10 r ≡ false
         → moved_of C (settled f s) r ≡ settled (shut_floor f (e + C.trp)) (after (shut_banks B e) (shut_waits W (e + C.trp)) s.acts)
     unfolding debt_next banks_next acts_next device_next start_now
-    pre-moves h z = moved_as Pre _ (shut_banks B e) _ s.acts h refl (rw z) (pre-raises C r e g (start Pre) four slow f W size z) refl refl idle
+    pre-moves h z = moved_as Pre _ (shut_banks B e) _ s.acts h refl (rw z) (pre-raises C r e g (start Pre) four slow f W size z) refl refl
 
     module _ (w : Asks) (asked : Asked C (regs_in s) w) where
       abbrev pub act_banks : Banks
@@ -166,7 +162,7 @@ module _ (C : Chip) (s : Rank) (f : Floor) (r : Record) where
       unfolding debt_next banks_next acts_next device_next
       act-moves h =
           moved_as Act (act_floor f (e + C.trrd) four) act_banks act_waits act_acts h refl (rw (n4-is C g w asked))
-          (act-raises C r e g (start Act) four slow f W size w asked) refl refl idle
+          (act-raises C r e g (start Act) four slow f W size w asked) refl refl
           ∙ ap (λ y. settled (act_floor f (e + C.trrd) y) (after act_banks act_waits act_acts)) (four_same C s.acts)
 
       abbrev rd_long : Bool
@@ -198,7 +194,7 @@ module _ (C : Chip) (s : Rank) (f : Floor) (r : Record) where
       rd-moves h z =
           moved_as Rd _ (col_banks true own) _ s.acts h refl
           (rw (z, n10-is C g w asked, n13-is C g w asked r.a, n19-is C g w asked r.a))
-          (rd-raises C r e g (start Rd) four slow f W size w asked z) refl refl idle
+          (rd-raises C r e g (start Rd) four slow f W size w asked z) refl refl
 
       pub wr-moves : command_in s r ≡ Wr → a10 r ≡ false
           → moved_of C (settled f s) r ≡ settled (column_floor f w false rd_long e) (after (col_banks false (own + 8)) (col_waits false) s.acts)
@@ -206,7 +202,7 @@ module _ (C : Chip) (s : Rank) (f : Floor) (r : Record) where
       wr-moves h z =
           moved_as Wr _ (col_banks false (own + 8)) _ s.acts h refl
           (rw (z, n11-is C g w asked, n14-is C g w asked))
-          (wr-raises C r e g (start Wr) four slow f W size w asked z) refl refl idle
+          (wr-raises C r e g (start Wr) four slow f W size w asked z) refl refl
 
       rd-start : col_start w C.tras true e (get_or B.actat own 0) ≡ start Rd
       rd-start = rd-starts C g w asked e (get_or B.actat own 0)
@@ -225,7 +221,7 @@ module _ (C : Chip) (s : Rank) (f : Floor) (r : Record) where
       rd-auto-moves h z =
           moved_as Rd _ (shut_banks (col_banks true own) (start Rd)) _ s.acts h refl
           (rw (z, n10-is C g w asked, n13-is C g w asked r.a, n19-is C g w asked r.a))
-          (rd-auto-raises C r e g (start Rd) four slow f W size w asked z) refl refl idle
+          (rd-auto-raises C r e g (start Rd) four slow f W size w asked z) refl refl
           ∙ ap (λ x. settled (shut_floor (column_floor f w true rd_long e) (x + C.trp)) (after (shut_banks (col_banks true own) x) (shut_waits (col_waits true) (x + C.trp)) s.acts)) (sym rd-start)
 
       pub wr-auto-moves : command_in s r ≡ Wr → a10 r ≡ true
@@ -236,5 +232,5 @@ module _ (C : Chip) (s : Rank) (f : Floor) (r : Record) where
       wr-auto-moves h z =
           moved_as Wr _ (shut_banks (col_banks false (own + 8)) (start Wr)) _ s.acts h refl
           (rw (z, n11-is C g w asked, n14-is C g w asked))
-          (wr-auto-raises C r e g (start Wr) four slow f W size w asked z) refl refl idle
+          (wr-auto-raises C r e g (start Wr) four slow f W size w asked z) refl refl
           ∙ ap (λ x. settled (shut_floor (column_floor f w false rd_long e) (x + C.trp)) (after (shut_banks (col_banks false (own + 8)) x) (shut_waits (col_waits false) (x + C.trp)) s.acts)) (sym wr-start)

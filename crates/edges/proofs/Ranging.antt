@@ -31,9 +31,9 @@ use Rattle.edges.specs.declared.Rank.{Rank}
 use Rattle.edges.specs.Next.{set_if, counting, paid, woken, stamped, turned_to, slow_now, device_next, debt_next, banks_next, acts_next}
 use Rattle.edges.specs.Views.{REF, MRS, ZQ, SRE, SRX, DLL, CKE, PDX, SLOW}
 use Rattle.edges.specs.Says.{soonest_of, command_in, says_by, says_of}
-use Rattle.edges.specs.Step.{moved_of, stopped_by, stopped_of, step_of, fold_of}
+use Rattle.edges.specs.Step.{moved_of, stopped_of, step_of, fold_of}
 use Rattle.edges.specs.Ranges.{edges_ok, farthest, Near, rank_in_range, Ranged}
-use Rattle.edges.specs.Ends.{taken_of, next_late, lowered_of, end_of, ended_of}
+use Rattle.edges.specs.Ends.{taken_of, end_of, ended_of}
 
 -- ── The test and the facts ──────────────────────────────────────────────────────────────────
 
@@ -97,7 +97,7 @@ in-range s r =
 
 -- ── What is said is said of an edge up to the record's ──────────────────────────────────────
 
-pub told-edge : (e n : ℕ) (b : Break) → (verdict_at e n b).edge ≤ e
+told-edge : (e n : ℕ) (b : Break) → (verdict_at e n b).edge ≤ e
 told-edge e n Fine = omega arith
 told-edge e n (Broken k p m f) = omega arith
 
@@ -108,14 +108,14 @@ first_edge e v w a b = go (is_clean v)
     go true = b
     go false = a
 
-says-edge : (e n : ℕ) (x24 x25 x28 x31 : Late) (b o d f g : Break) → (says_by e n x24 x25 x28 x31 b o d f g).edge ≤ e
+says-edge : (e n : ℕ) (x24 x25 x28 x31 : Late) (b o d f : Break) → (says_by e n x24 x25 x28 x31 b o d f).edge ≤ e
 unfolding says_by
-says-edge e n x24 x25 x28 x31 b o d f g = before (soonest_of x24 x25 x28 x31) (ltb (soonest_of x24 x25 x28 x31).at e) refl
+says-edge e n x24 x25 x28 x31 b o d f = before (soonest_of x24 x25 x28 x31) (ltb (soonest_of x24 x25 x28 x31).at e) refl
   where
     before : (soon : Late) (x : Bool) → ltb soon.at e ≡ x
         → (cond x (verdict_at soon.at 0 (why soon))
         (first (verdict_at e n b) (first (verdict_at e 0 (late_at e x24)) (first (verdict_at e 0 o)
-        (first (verdict_at e n d) (first (verdict_at e 0 (late_at e x28)) (first (verdict_at e n f) (first (verdict_at e 0 (late_at e x31)) (verdict_at e n g))))))))).edge ≤ e
+        (first (verdict_at e n d) (first (verdict_at e 0 (late_at e x28)) (first (verdict_at e n f) (verdict_at e 0 (late_at e x31))))))))).edge ≤ e
     before soon true z = omega (arith, ltb-true soon.at e z)
     before soon false z =
         first_edge e (verdict_at e n b) _ (told-edge e n b)
@@ -123,12 +123,11 @@ says-edge e n x24 x25 x28 x31 b o d f g = before (soonest_of x24 x25 x28 x31) (l
         (first_edge e (verdict_at e 0 o) _ (told-edge e 0 o)
         (first_edge e (verdict_at e n d) _ (told-edge e n d)
         (first_edge e (verdict_at e 0 (late_at e x28)) _ (told-edge e 0 (late_at e x28))
-        (first_edge e (verdict_at e n f) _ (told-edge e n f)
-        (first_edge e (verdict_at e 0 (late_at e x31)) _ (told-edge e 0 (late_at e x31)) (told-edge e n g)))))))
+        (first_edge e (verdict_at e n f) _ (told-edge e n f) (told-edge e 0 (late_at e x31)))))))
 
 said-edge : (C : Chip) (s : Rank) (r : Record) → (says_of C s r).edge ≤ s.edge + r.step
 unfolding says_of
-said-edge C s r = says-edge _ _ _ _ _ _ _ _ _ _ _
+said-edge C s r = says-edge _ _ _ _ _ _ _ _ _ _
 
 -- ── A record keeps the ranges ───────────────────────────────────────────────────────────────
 
@@ -211,7 +210,7 @@ module _ (C : Chip) (small : Small C) where
         go d true l = l
         go d false l = omega arith
 
-    pub stopped_goes : (v : Verdict) → v.edge ≤ last_edge → Goes s (stopped_of s r v)
+    stopped_goes : (v : Verdict) → v.edge ≤ last_edge → Goes s (stopped_of s r v)
     unfolding stopped_of
     stopped_goes v l = (
       record {
@@ -261,15 +260,6 @@ module _ (C : Chip) (small : Small C) (n : Rank) (range : rank_in_range n ≡ tr
       ≡ cond (has_zero (records bs)) (record { zero = true; rank = n }) (record { zero = false; rank = fold_of C n (records bs) })
   unfolding taken_of
   taken-folds bs sixes room = rw (eq-eqb _ _ sixes, le-ltb _ _ room, range, small-test C small)
-
-  pub lowered-falls :
-      (step : ℕ) → step ≤ 16777216 → n.count + 1 ≤ limit
-      → lowered_of C n step
-      ≡ cond (ltb (next_late C n (n.edge + step)).at (n.edge + step))
-      (record { broken = true; rank = stopped_by n step (verdict_at (next_late C n (n.edge + step)).at 0 (why (next_late C n (n.edge + step)))) })
-      (record { broken = false; rank = n })
-  unfolding lowered_of
-  lowered-falls step short room = rw (small-test C small, range, le-ltb _ _ short, le-ltb _ _ room)
 
   pub ended-ends : (t : ℕ) → ltb t n.edge || ltb last_edge t ≡ false → ended_of C n t ≡ end_of C n t
   unfolding ended_of

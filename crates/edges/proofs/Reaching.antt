@@ -2,7 +2,7 @@
 -- Assumes nothing.
 use Prim.Native.Nat.{ℕ, ◌+◌, ◌-◌, ◌/◌, ◌%◌, ◌≤◌, ◌<◌}
 use native.Mathlib.Omega.{arith}
-use mathlib.Core.Bool.{Bool, false}
+use mathlib.Core.Bool.{Bool}
 use mathlib.Core.List.{List}
 use mathlib.Core.Path.{◌≡◌, refl, sym, subst}
 use lib.ListN.{length}
@@ -10,7 +10,6 @@ use Rattle.laws.specs.Eight.{table}
 use Rattle.records.specs.declared.Record.{Record}
 use Rattle.records.specs.Record.{record_at}
 use Rattle.chip.specs.declared.Chip.{Chip}
-use Rattle.running.specs.Order.{ordering}
 use Rattle.running.specs.Ranges.{limit, Small}
 use Rattle.edges.specs.declared.Device.{Device}
 use Rattle.edges.specs.declared.Debt.{Debt}
@@ -19,7 +18,7 @@ use Rattle.edges.specs.Step.{step_of}
 use Rattle.edges.specs.Floors.{under, settled}
 use Rattle.edges.specs.Ranges.{Ranged, Ready}
 use Rattle.edges.specs.Running.{Track, rank_of, Along}
-use Rattle.edges.specs.Lane.{track_in, aside_in, rest_by, Fit, Smoothly}
+use Rattle.edges.specs.Lane.{track_in, rest_by, Fit, Smoothly}
 use Rattle.edges.specs.Folding.{Reached, Counting}
 use Rattle.edges.proofs.Stands.{whole-record, short-step, one_more_lem}
 use Rattle.edges.proofs.Ranging.{step-goes}
@@ -60,22 +59,22 @@ module _ (C : Chip) (bytes : List ℕ) where
 
   -- a lane from s on, its arrays put together and the floor put in
   pub reached-lane :
-      (s : Rank) (from : ℕ) → Reached C bytes s from s from → ordering s.place ≡ false → (l : Bool) (x : Debt) (h : List ℕ) (D : Device) (t : Track) (at : ℕ)
+      (s : Rank) (from : ℕ) → Reached C bytes s from s from → (l : Bool) (x : Debt) (h : List ℕ) (D : Device) (t : Track) (at : ℕ)
       → Smoothly C bytes from s.level s.debt s.waits.holds s.device (track_in s) l x h D t at
-      → Reached C bytes s from (rank_of (rest_by l x h D (aside_in s)) t) at
+      → Reached C bytes s from (rank_of (rest_by l x h D s.first) t) at
   unfolding settled under table
-  reached-lane s from f order l x h D t at q =
+  reached-lane s from f l x h D t at q =
       let b = q.fit.base in
       record {
         fit = record { base = stand-at C bytes at _ b.small b.within b.sixes b.edge b.room b.turn b.acted b.ring long; debt = q.fit.debt; turned = q.fit.turned };
         holds = refl;
         clean = f.clean;
         broke = f.broke;
-        along = subst (λ (n : Rank). Along C bytes n from (rank_of (rest_by l x h D (aside_in s)) t) at) (apart s (record { track = stand-sizes f.fit.base; holds = f.holds })) (q.along (aside_in s) (record { clean = f.clean; broke = f.broke; order = order }));
+        along = subst (λ (n : Rank). Along C bytes n from (rank_of (rest_by l x h D s.first) t) at) (apart s (record { track = stand-sizes f.fit.base; holds = f.holds })) (q.along s.first f.clean f.broke);
         later = q.later;
       }
     where
-      long : Lengths (track_in (rank_of (rest_by l x h D (aside_in s)) t))
+      long : Lengths (track_in (rank_of (rest_by l x h D s.first) t))
       long = record {
         act = refl;
         col = refl;

@@ -24,7 +24,6 @@ none-later n = λ i. record {
   waits = n.waits;
   acts = n.acts;
   device = n.device;
-  place = n.place;
 }
   where
     edge : n.edge ≡ n.edge + 0
@@ -45,7 +44,6 @@ one_later n r rs = λ i. record {
   waits = n.waits;
   acts = n.acts;
   device = n.device;
-  place = n.place;
 }
   where
     edge : n.edge + r.step + steps_of rs ≡ n.edge + (r.step + steps_of rs)

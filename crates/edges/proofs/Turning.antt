@@ -100,7 +100,7 @@ module _ (C : Chip) (w : Asks) (set dll : Bool) (clear : ℕ) (d : Rest) (quiet 
 
   clean_step : AllFine C (rank_of d t) r e → step_of C (rank_of d t) r ≡ moved_of C (rank_of d t) r
   unfolding step_of settled
-  clean_step fine = rw (eq-eqb d.first.outcome 0 quiet.clean, says_none C (rank_of d t) r none-due not-owed not-long fine quiet.order)
+  clean_step fine = rw (eq-eqb d.first.outcome 0 quiet.clean, says_none C (rank_of d t) r none-due not-owed not-long fine)
 
   by-pins : command_in (rank_of d t) r ≡ by_pins r.pins
   unfolding settled command_of
@@ -128,7 +128,6 @@ module _ (C : Chip) (w : Asks) (set dll : Bool) (clear : ℕ) (d : Rest) (quiet 
     waits = record { act = W.act; col = W.col; pre = W.pre; holds = h i };
     acts = A;
     device = d.device;
-    place = d.place;
   })
 
   turned : (B : Banks) (W : Waits) (A : Acts) (g : Floor) → W.holds ≡ d.holds → AllFine C (rank_of d t) r e
@@ -142,45 +141,45 @@ module _ (C : Chip) (w : Asks) (set dll : Bool) (clear : ℕ) (d : Rest) (quiet 
   unfolding by_pins settled
   nop-turn p =
       let c = pins-of 7 Nop p refl in
-      turned t.banks s.waits t.acts f refl (nop-fine C (rank_of d t) r e c.0) (nop-moves C s f r size quiet.order c.1)
+      turned t.banks s.waits t.acts f refl (nop-fine C (rank_of d t) r e c.0) (nop-moves C s f r size c.1)
 
   pub des-turn : 7 < r.pins → step_of C (rank_of d t) r ≡ rank_of d (next t.banks s.waits t.acts f)
   unfolding settled
   des-turn p =
       let q : by_pins r.pins ≡ Des = deselected r.pins p in
-      turned t.banks s.waits t.acts f refl (des-fine C (rank_of d t) r e (by-pins ∙ q)) (des-moves C s f r size quiet.order (held-pins ∙ q))
+      turned t.banks s.waits t.acts f refl (des-fine C (rank_of d t) r e (by-pins ∙ q)) (des-moves C s f r size (held-pins ∙ q))
 
   pub pre-turn : r.pins ≡ 2 → a10 r ≡ false → (get_or t.banks.shutno own 0 < get_or t.banks.actno own 0) ⊎ (get_or t.banks.shutat own 0 ≤ e)
       → get_or t.pre own 0 ≤ e → f.pre ≤ e
-      → step_of C (rank_of d t) r ≡ rank_of d (next (shut_banks C s f r size quiet.order t.banks e) (shut_waits C s f r size quiet.order s.waits (e + C.trp)) t.acts (shut_floor f (e + C.trp)))
+      → step_of C (rank_of d t) r ≡ rank_of d (next (shut_banks C s f r size t.banks e) (shut_waits C s f r size s.waits (e + C.trp)) t.acts (shut_floor f (e + C.trp)))
   unfolding by_pins settled
   pre-turn p z k x y =
       let c = pins-of 2 Pre p refl in
-      turned _ _ t.acts _ refl (pre-fine C (rank_of d t) r e c.0 z k (both-over (wait-pre f s.waits r z) x y)) (pre-moves C s f r size quiet.order c.1 z)
+      turned _ _ t.acts _ refl (pre-fine C (rank_of d t) r e c.0 z k (both-over (wait-pre f s.waits r z) x y)) (pre-moves C s f r size c.1 z)
 
   pub act-turn : r.pins ≡ 3 → set ≡ true → get_or t.banks.actno own 0 ≤ get_or t.banks.shutno own 0 → get_or t.banks.shutat own 0 ≤ e
       → get_or t.act own 0 ≤ e → f.act ≤ e
       → step_of C (rank_of d t) r
-      ≡ rank_of d (next (act_banks C s f r size quiet.order w quiet.asked) (act_waits C s f r size quiet.order w quiet.asked) (act_acts C s f r size quiet.order w quiet.asked)
+      ≡ rank_of d (next (act_banks C s f r size w quiet.asked) (act_waits C s f r size w quiet.asked) (act_acts C s f r size w quiet.asked)
       (act_floor f (e + C.trrd) (four_at t.acts.at t.acts.no t.acts.turn C.tfaw)))
   unfolding by_pins settled
   act-turn p z k l x y =
       let c = pins-of 3 Act p refl in
-      turned _ _ _ _ refl (act-fine C (rank_of d t) r e c.0 (k, l) (quiet.written ∙ z) (both-over (wait-act f s.waits r) x y)) (act-moves C s f r size quiet.order w quiet.asked c.1)
+      turned _ _ _ _ refl (act-fine C (rank_of d t) r e c.0 (k, l) (quiet.written ∙ z) (both-over (wait-act f s.waits r) x y)) (act-moves C s f r size w quiet.asked c.1)
 
   abbrev rd_long : Bool
   rd_long = eqb (r.a / 4096 % 2) 1
 
   abbrev pub col_next : (rd : Bool) (i : ℕ) → Track
-  col_next rd i = next (col_banks C s f r size quiet.order w quiet.asked rd i) (col_waits C s f r size quiet.order w quiet.asked rd) t.acts (column_floor f w rd rd_long e)
+  col_next rd i = next (col_banks C s f r size w quiet.asked rd i) (col_waits C s f r size w quiet.asked rd) t.acts (column_floor f w rd rd_long e)
 
   abbrev pub col_starts : (rd : Bool) → ℕ
-  col_starts rd = start_by C s f r size quiet.order w quiet.asked rd
+  col_starts rd = start_by C s f r size w quiet.asked rd
 
   abbrev pub auto_next : (rd : Bool) (i : ℕ) → Track
   auto_next rd i =
-      next (shut_banks C s f r size quiet.order (col_banks C s f r size quiet.order w quiet.asked rd i) (col_starts rd))
-      (shut_waits C s f r size quiet.order (col_waits C s f r size quiet.order w quiet.asked rd) (col_starts rd + C.trp)) t.acts
+      next (shut_banks C s f r size (col_banks C s f r size w quiet.asked rd i) (col_starts rd))
+      (shut_waits C s f r size (col_waits C s f r size w quiet.asked rd) (col_starts rd + C.trp)) t.acts
       (shut_floor (column_floor f w rd rd_long e) (col_starts rd + C.trp))
 
   module _ (opened : get_or t.banks.shutno own 0 < get_or t.banks.actno own 0) where
@@ -191,11 +190,11 @@ module _ (C : Chip) (w : Asks) (set dll : Bool) (clear : ℕ) (d : Rest) (quiet 
 
       pub rd-turn : a10 r ≡ false → step_of C (rank_of d t) r ≡ rank_of d (col_next true own)
       unfolding by_pins
-      rd-turn o = turned _ _ t.acts _ refl rd-clean (rd-moves C s f r size quiet.order w quiet.asked (pins-of 5 Rd p refl).1 o)
+      rd-turn o = turned _ _ t.acts _ refl rd-clean (rd-moves C s f r size w quiet.asked (pins-of 5 Rd p refl).1 o)
 
       pub rd-auto-turn : a10 r ≡ true → step_of C (rank_of d t) r ≡ rank_of d (auto_next true own)
       unfolding by_pins
-      rd-auto-turn o = turned _ _ t.acts _ refl rd-clean (rd-auto-moves C s f r size quiet.order w quiet.asked (pins-of 5 Rd p refl).1 o)
+      rd-auto-turn o = turned _ _ t.acts _ refl rd-clean (rd-auto-moves C s f r size w quiet.asked (pins-of 5 Rd p refl).1 o)
 
     module _ (p : r.pins ≡ 4) (x : get_or t.col (own + 8) 0 ≤ e) (y : f.wr ≤ e) where
       wr-clean : AllFine C (rank_of d t) r e
@@ -204,8 +203,8 @@ module _ (C : Chip) (w : Asks) (set dll : Bool) (clear : ℕ) (d : Rest) (quiet 
 
       pub wr-turn : a10 r ≡ false → step_of C (rank_of d t) r ≡ rank_of d (col_next false (own + 8))
       unfolding by_pins
-      wr-turn o = turned _ _ t.acts _ refl wr-clean (wr-moves C s f r size quiet.order w quiet.asked (pins-of 4 Wr p refl).1 o)
+      wr-turn o = turned _ _ t.acts _ refl wr-clean (wr-moves C s f r size w quiet.asked (pins-of 4 Wr p refl).1 o)
 
       pub wr-auto-turn : a10 r ≡ true → step_of C (rank_of d t) r ≡ rank_of d (auto_next false (own + 8))
       unfolding by_pins
-      wr-auto-turn o = turned _ _ t.acts _ refl wr-clean (wr-auto-moves C s f r size quiet.order w quiet.asked (pins-of 4 Wr p refl).1 o)
+      wr-auto-turn o = turned _ _ t.acts _ refl wr-clean (wr-auto-moves C s f r size w quiet.asked (pins-of 4 Wr p refl).1 o)

@@ -14,7 +14,6 @@ use Rattle.records.specs.Record.{record_at}
 use Rattle.chip.specs.declared.Chip.{Chip}
 use Rattle.running.specs.declared.Asks.{Asks}
 use Rattle.running.specs.Easy.{Asked}
-use Rattle.running.specs.Order.{ordering}
 use Rattle.running.specs.Ranges.{limit, last_edge, Small}
 use Rattle.edges.specs.declared.Rank.{Rank}
 use Rattle.edges.specs.Views.{regs_of, written_of}
@@ -58,8 +57,8 @@ module _ (C : Chip) (s : Rank) (from : ℕ) (bytes : List ℕ) where
   -- the beginning
   pub fold_start : (clear : ℕ) (real : Bool) (w : Asks) (d : Rest) (t : Track) → s ≡ rank_of d t → Fit C bytes from d.debt d.device t → Clear C clear d t
       → (real ≡ true → (b : ℕ) → b < 8 → get_or t.banks.actno b 0 ≤ t.count) → d.first.outcome ≡ 0 → d.first.edge ≤ last_edge
-      → ordering d.place ≡ false → Asked C (regs_of d.device) w → Folding C s from bytes clear real false w d t from
-  fold_start clear real w d t same fit free acting clean broke order asked = record {
+      → Asked C (regs_of d.device) w → Folding C s from bytes clear real false w d t from
+  fold_start clear real w d t same fit free acting clean broke asked = record {
     along = along-none C bytes s from (rank_of d t) (sym same);
     later = omega arith;
     base = fit.base;
@@ -67,7 +66,6 @@ module _ (C : Chip) (s : Rank) (from : ℕ) (bytes : List ℕ) where
     acting = acting;
     clean = clean;
     broke = broke;
-    order = order;
     asked = λ _. asked;
     debt = fit.debt;
     turned = fit.turned;
@@ -115,7 +113,6 @@ module _ (C : Chip) (s : Rank) (from : ℕ) (bytes : List ℕ) where
       acting = λ _. acts;
       clean = f.clean;
       broke = f.broke;
-      order = f.order;
       asked = λ _. asked;
       debt = (debt-later d.debt.due d.debt.sleeps f.debt.0, debt-later d.debt.gap d.debt.sleeps f.debt.1);
       turned = f.turned;
@@ -125,7 +122,7 @@ module _ (C : Chip) (s : Rank) (from : ℕ) (bytes : List ℕ) where
         st = q.stands
 
         quiet : Quiet C v (all_written d.device) (written_of d.device).dll clear d
-        quiet = record { clean = f.clean; order = f.order; level = high; asked = asked; written = refl; reset = refl; owed = f.free.owed }
+        quiet = record { clean = f.clean; level = high; asked = asked; written = refl; reset = refl; owed = f.free.owed }
 
         acts : (b : ℕ) → b < 8 → get_or t'.banks.actno b 0 ≤ t'.count
         acts b l = ⊎_elim
@@ -146,9 +143,9 @@ module _ (C : Chip) (s : Rank) (from : ℕ) (bytes : List ℕ) where
       pub fold_more :
           (d' : Rest) (t' : Track) (clear' : ℕ) (stale' : Bool) (v : Asks) (real' : Bool) → step_of C (rank_of d t) r ≡ rank_of d' t' → Lengths t' → Clear C clear' d' t'
           → (real' ≡ true → (b : ℕ) → b < 8 → get_or t'.banks.actno b 0 ≤ t'.count) → d'.first.outcome ≡ 0
-          → ordering d'.place ≡ false → (stale' ≡ false → Asked C (regs_of d'.device) v) → Folding C s from bytes clear' real' stale' v d' t' (at + 6)
+          → (stale' ≡ false → Asked C (regs_of d'.device) v) → Folding C s from bytes clear' real' stale' v d' t' (at + 6)
       unfolding settled
-      fold_more d' t' clear' stale' v real' step long free acting clean order asked =
+      fold_more d' t' clear' stale' v real' step long free acting clean asked =
           let le = whole-record C 0 bytes at t f.base h r is in
           let k : Ranged (rank_of d' t') = subst Ranged step goes.0 in
           let n : t'.count ≡ t.count + 1 = ap (λ (x : Rank). x.count) (sym step) ∙ goes.1 in
@@ -160,7 +157,6 @@ module _ (C : Chip) (s : Rank) (from : ℕ) (bytes : List ℕ) where
             acting = acting;
             clean = clean;
             broke = k.broke;
-            order = order;
             asked = asked;
             debt = k.debt;
             turned = k.turned;

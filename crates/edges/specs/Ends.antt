@@ -1,6 +1,6 @@
 -- A rank's beginning, its sections and its end, for every rank and chip: 01, "The recording", below the table of refusals.
 -- Assumes nothing.
-use Rattle.std.specs.Prelude.{ℕ, ◌+◌, ◌-◌, ◌*◌, ◌/◌, ◌%◌, Bool, true, false, cond, ◌||◌, List, eqb, ltb, length, replicate, set}
+use Rattle.std.specs.Prelude.{ℕ, ◌+◌, ◌-◌, ◌*◌, ◌/◌, ◌%◌, Bool, true, false, cond, ◌||◌, List, eqb, ltb, length, replicate}
 use Rattle.laws.specs.Eight.{table}
 use Rattle.answers.specs.declared.Shown.{Shown}
 use Rattle.answers.specs.declared.Verdict.{Verdict}
@@ -11,7 +11,7 @@ use Rattle.chip.specs.declared.Chip.{Chip}
 use Rattle.running.specs.declared.Late.{Late}
 use Rattle.running.specs.Breaks.{status_of}
 use Rattle.running.specs.Late.{why}
-use Rattle.running.specs.Said.{no_verdict, broken_at, verdict_at, clean_at, is_clean}
+use Rattle.running.specs.Said.{no_verdict, verdict_at, clean_at, is_clean}
 use Rattle.running.specs.Ranges.{limit, last_edge, is_small}
 use Rattle.running.specs.Ends.{registers_of, rest_of, no_end}
 use Rattle.edges.specs.declared.Banks.{Banks}
@@ -21,11 +21,10 @@ use Rattle.edges.specs.declared.Device.{Device}
 use Rattle.edges.specs.declared.Debt.{Debt}
 use Rattle.edges.specs.declared.Rank.{Rank}
 use Rattle.edges.specs.declared.Folded.{Folded}
-use Rattle.edges.specs.declared.Lowered.{Lowered}
-use Rattle.edges.specs.Views.{kept_of, regs_of, written_of, CKE}
+use Rattle.edges.specs.Views.{kept_of, regs_of, written_of}
 use Rattle.edges.specs.Next.{counting}
 use Rattle.edges.specs.Says.{next24, next25, next28, next31, soonest_of, refreshed}
-use Rattle.edges.specs.Step.{stopped_by, fold_of}
+use Rattle.edges.specs.Step.{fold_of}
 use Rattle.edges.specs.Ranges.{rank_in_range}
 
 -- ── Before the first record ─────────────────────────────────────────────────────────────────
@@ -67,57 +66,11 @@ fresh_rank level due gap =
       waits = fresh_waits;
       acts = fresh_acts;
       device = fresh_device;
-      place = 0;
     }
 
 -- "Refresh debt starts at 0": 9 is owed nine intervals later; and those of rule 31 are counted "from edge 0"
 abbrev pub start_rank : Chip → Rank
 start_rank C = fresh_rank true (9 * C.trefi) (C.nine + 1)
-
--- ── After a reset ───────────────────────────────────────────────────────────────────────────
-
--- CKE changed at edge 0, as record 1
-abbrev pub turned_device : (need : ℕ) → Device
-turned_device need =
-    record {
-      at = replicate 9 0;
-      no = set (replicate 9 0) CKE 1;
-      need = set (replicate 9 0) CKE need;
-      codes = replicate 4 0;
-      written = replicate 4 false;
-    }
-
--- CKE has risen, as record 1 at edge 0: nothing may come before t_xs is over, CKE keeps its level for t_cke, and the order begins
-unfoldable pub risen_rank : Chip → Rank
-risen_rank C =
-    record {
-      edge = 0;
-      count = 1;
-      first = no_verdict;
-      level = true;
-      debt = record { sleeps = false; due = 9 * C.trefi; gap = C.nine + 1 };
-      banks = fresh_banks;
-      waits = record { act = replicate 8 C.txs; col = replicate 16 C.txs; pre = replicate 8 C.txs; holds = replicate 4 C.txs };
-      acts = fresh_acts;
-      device = turned_device C.tcke;
-      place = 1;
-    }
-
--- its pins were other than NOP or DES, which breaks rule 1
-unfoldable pub spoilt_rank : Chip → Rank
-spoilt_rank C =
-    record {
-      edge = 0;
-      count = 1;
-      first = broken_at 0 1 1 0 0 0;
-      level = true;
-      debt = record { sleeps = false; due = 9 * C.trefi; gap = C.nine + 1 };
-      banks = fresh_banks;
-      waits = fresh_waits;
-      acts = fresh_acts;
-      device = fresh_device;
-      place = 0;
-    }
 
 -- ── A section ───────────────────────────────────────────────────────────────────────────────
 
@@ -145,23 +98,6 @@ unfoldable pub next_late : Chip → Rank → (hi : ℕ) → Late
 next_late C s hi =
     soonest_of (next24 C s.banks s.edge hi) (next25 s.debt (refreshed s) hi) (next28 C s.level s.debt.sleeps s.device hi)
     (next31 C s.debt (refreshed s) hi)
-
--- RESET falls at a record so many edges on: "deadlines before the record's edge are judged". Where one passes the rank is stopped by it; else it is as
--- it was, and so where a count or a range would let a sum wrap
-unfoldable pub lowered_of : Chip → Rank → (step : ℕ) → Lowered
-lowered_of C n step =
-    cond (is_small C)
-    (cond (rank_in_range n) (cond (ltb 16777216 step || ltb limit (n.count + 1)) same (cond (ltb x.at (n.edge + step)) broken same)) same)
-    same
-  where
-    x : Late
-    x = next_late C n (n.edge + step)
-
-    same : Lowered
-    same = record { broken = false; rank = n }
-
-    broken : Lowered
-    broken = record { broken = true; rank = stopped_by n step (verdict_at x.at 0 (why x)) }
 
 -- the break so far, or the deadline that passes up to the end edge, or clean
 unfoldable pub verdict_of : Chip → Rank → (end : ℕ) → Verdict

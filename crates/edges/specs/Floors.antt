@@ -34,5 +34,4 @@ settled f s =
       waits = under f s.waits;
       acts = s.acts;
       device = s.device;
-      place = s.place;
     }

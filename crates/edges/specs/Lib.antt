@@ -13,4 +13,3 @@ pub mod Ranges
 pub mod Lane
 pub mod Folding
 pub mod Ends
-pub mod Stretch

@@ -1,12 +1,11 @@
 -- The loop over a section's records: what it holds in arrays, where it stands, and that what is left to be folded stays the same.
 -- Assumes nothing.
-use Rattle.std.specs.Prelude.{ℕ, ◌+◌, ◌-◌, ◌*◌, ◌/◌, ◌%◌, ◌≤◌, ◌<◌, Bool, true, false, ◌&&◌, List, ◌⊎◌, ◌≡◌, get_or, length, drop}
+use Rattle.std.specs.Prelude.{ℕ, ◌+◌, ◌-◌, ◌*◌, ◌/◌, ◌%◌, ◌≤◌, ◌<◌, Bool, true, ◌&&◌, List, ◌⊎◌, ◌≡◌, get_or, length, drop}
 use Rattle.answers.specs.declared.Verdict.{Verdict}
 use Rattle.records.specs.Record.{records, has_zero}
 use Rattle.chip.specs.declared.Chip.{Chip}
 use Rattle.running.specs.declared.Asks.{Asks}
 use Rattle.running.specs.Easy.{Asked}
-use Rattle.running.specs.Order.{ordering}
 use Rattle.running.specs.Ranges.{limit, last_edge, Small}
 use Rattle.edges.specs.declared.Banks.{Banks}
 use Rattle.edges.specs.declared.Acts.{Acts}
@@ -38,7 +37,6 @@ pub record Rest : Type 0 where
   pub debt : Debt
   pub holds : List ℕ
   pub device : Device
-  pub place : ℕ
 
 -- the rank of both, with no floor put in, and with it
 abbrev pub held_by : Rest → Track → Rank
@@ -53,7 +51,6 @@ held_by d t =
       waits = record { act = t.act; col = t.col; pre = t.pre; holds = d.holds };
       acts = t.acts;
       device = d.device;
-      place = d.place;
     }
 
 abbrev pub rank_of : Rest → Track → Rank
@@ -63,11 +60,10 @@ rank_of d t = settled t.floor (held_by d t)
 abbrev pub all_written : Device → Bool
 all_written D = let w = written_of D in w.w0 && (w.w1 && (w.w2 && w.w3))
 
--- what the quick way knows of the rest: nothing is broken, no order is to be kept, CKE is high, w is what the registers ask, set and dll what is written, and no
+-- what the quick way knows of the rest: nothing is broken, CKE is high, w is what the registers ask, set and dll what is written, and no
 -- deadline of the debt passes before the edge clear
 pub record Quiet (C : Chip) (w : Asks) (set dll : Bool) (clear : ℕ) (d : Rest) : Type 0 where
   pub clean : d.first.outcome ≡ 0
-  pub order : ordering d.place ≡ false
   pub level : d.level ≡ true
   pub asked : Asked C (regs_of d.device) w
   pub written : all_written d.device ≡ set

@@ -15,7 +15,6 @@ use Rattle.running.specs.declared.Shared.{Shared}
 use Rattle.running.specs.declared.Late.{Late}
 use Rattle.running.specs.Breaks.{when_is, joined, rule2, rule3, rule23, spacings}
 use Rattle.running.specs.Late.{why, sooner, late_by, stay_until, soonest}
-use Rattle.running.specs.Order.{rule32}
 use Rattle.running.specs.Down.{turns, rule26, rule27, exit_rules}
 use Rattle.running.specs.Next.{due}
 use Rattle.running.specs.Said.{first, verdict_at, late_at}
@@ -62,7 +61,7 @@ abbrev pub command_in : Rank → Record → Command
 command_in s r = command_of s.level s.debt.sleeps r
 
 abbrev pub shared_in : Chip → Rank → Shared
-shared_in C s = shared_of C s.banks s.acts s.device s.place
+shared_in C s = shared_of C s.banks s.acts s.device
 
 -- rules 4 to 23 of the record at the edge e: the marks are asked only where the waiting time is not over
 unfoldable pub spaced_in : Chip → Rank → Record → (e : ℕ) → Break
@@ -86,18 +85,14 @@ changed_in C s r e =
 unfoldable pub left_in : Chip → Rank → Record → (e : ℕ) → Break
 left_in C s r e = cond (leb (wait_for s.waits (command_in s r) r) e) Fine (exit_rules (command_in s r) e (shared_in C s))
 
--- rule 32
-abbrev pub ordered_in : Rank → Record → Break
-ordered_in s r = rule32 s.place (command_in s r) r
-
 -- a deadline that passes before e; else by number what the record, number n, breaks, and the deadlines at e: b of rules 1 to 23, o of rule 25,
--- d of 26 and 27, f of 29 and 30, g of 32
-unfoldable pub says_by : (e n : ℕ) → (x24 x25 x28 x31 : Late) → (b o d f g : Break) → Verdict
-says_by e n x24 x25 x28 x31 b o d f g =
+-- d of 26 and 27, f of 29 and 30
+unfoldable pub says_by : (e n : ℕ) → (x24 x25 x28 x31 : Late) → (b o d f : Break) → Verdict
+says_by e n x24 x25 x28 x31 b o d f =
     let soon = soonest_of x24 x25 x28 x31 in
     cond (ltb soon.at e) (verdict_at soon.at 0 (why soon))
     (first (verdict_at e n b) (first (verdict_at e 0 (late_at e x24)) (first (verdict_at e 0 o)
-    (first (verdict_at e n d) (first (verdict_at e 0 (late_at e x28)) (first (verdict_at e n f) (first (verdict_at e 0 (late_at e x31)) (verdict_at e n g))))))))
+    (first (verdict_at e n d) (first (verdict_at e 0 (late_at e x28)) (first (verdict_at e n f) (verdict_at e 0 (late_at e x31))))))))
 
 abbrev pub refreshed : Rank → ℕ
 refreshed s = get_or s.device.no REF 0
@@ -107,4 +102,4 @@ says_of C s r =
     let e = s.edge + r.step in
     let x25 = next25 s.debt (refreshed s) (e + 1) in
     says_by e (s.count + 1) (next24 C s.banks s.edge (e + 1)) x25 (next28 C s.level s.debt.sleeps s.device (e + 1))
-    (next31 C s.debt (refreshed s) (e + 1)) (broken_in C s r e) (owing (command_in s r) e x25) (changed_in C s r e) (left_in C s r e) (ordered_in s r)
+    (next31 C s.debt (refreshed s) (e + 1)) (broken_in C s r e) (owing (command_in s r) e x25) (changed_in C s r e) (left_in C s r e)

@@ -1,12 +1,10 @@
 -- A record's effect on the rank, and the verdict so far.
 -- Assumes nothing.
-use Rattle.std.specs.Prelude.{ℕ, ◌+◌, cond, List, [], ◌∷◌, eqb}
+use Rattle.std.specs.Prelude.{ℕ, ◌+◌, cond, List, [], ◌∷◌}
 use Rattle.answers.specs.declared.Verdict.{Verdict}
 use Rattle.records.specs.declared.Record.{Record}
 use Rattle.chip.specs.declared.Chip.{Chip}
 use Rattle.chip.specs.declared.Regs.{Regs}
-use Rattle.chip.specs.Chip.{chip_for}
-use Rattle.running.specs.Order.{place_next}
 use Rattle.running.specs.Said.{is_clean, clean_at}
 use Rattle.edges.specs.declared.Rank.{Rank}
 use Rattle.edges.specs.Views.{regs_of}
@@ -18,10 +16,6 @@ use Rattle.edges.specs.Says.{command_in, says_of}
 abbrev pub regs_in : Rank → Regs
 regs_in s = regs_of s.device
 
--- the chip at a record: the fifth command after power-up is the first ZQ
-abbrev pub tuned_by : Chip → (place : ℕ) → Chip
-tuned_by C n = chip_for (eqb n 5) C
-
 -- after a clean record
 unfoldable pub moved_of : Chip → Rank → Record → Rank
 moved_of C s r =
@@ -30,7 +24,6 @@ moved_of C s r =
     let n = s.count + 1 in
     let g = regs_in s in
     let slow = slow_now s.banks s.device in
-    let D = tuned_by C s.place in
     record {
       edge = e;
       count = n;
@@ -38,17 +31,16 @@ moved_of C s r =
       level = r.cke;
       debt = debt_next C c e s.debt;
       banks = banks_next C c r e n g s.banks;
-      waits = waits_next D c r e g (start_of C c r e g s.banks) (four_back C s.acts) slow s.waits;
+      waits = waits_next C c r e g (start_of C c r e g s.banks) (four_back C s.acts) slow s.waits;
       acts = acts_next c e n s.acts;
-      device = device_next D c r e n slow s.device;
-      place = place_next c s.place;
+      device = device_next C c r e n slow s.device;
     }
 
 -- "Once broken, later sections are still checked and counted, but verdict, banks, registers and debt stay as they were"
-abbrev pub stopped_by : Rank → (step : ℕ) → Verdict → Rank
-stopped_by s step v =
+unfoldable pub stopped_of : Rank → Record → Verdict → Rank
+stopped_of s r v =
     record {
-      edge = s.edge + step;
+      edge = s.edge + r.step;
       count = s.count + 1;
       first = v;
       level = s.level;
@@ -57,11 +49,7 @@ stopped_by s step v =
       waits = s.waits;
       acts = s.acts;
       device = s.device;
-      place = s.place;
     }
-
-unfoldable pub stopped_of : Rank → Record → Verdict → Rank
-stopped_of s r v = stopped_by s r.step v
 
 -- so many edges and records later, with nothing else altered
 unfoldable pub later_of : Rank → (steps records : ℕ) → Rank
@@ -76,7 +64,6 @@ later_of s steps records =
       waits = s.waits;
       acts = s.acts;
       device = s.device;
-      place = s.place;
     }
 
 -- one record

@@ -12,7 +12,6 @@ use Rattle.running.specs.declared.Written.{Written}
 use Rattle.running.specs.declared.Rests.{Rests}
 use Rattle.running.specs.declared.Shared.{Shared}
 use Rattle.running.specs.Marks.{needing}
-use Rattle.running.specs.Order.{rise_mark}
 use Rattle.edges.specs.declared.Banks.{Banks}
 use Rattle.edges.specs.declared.Acts.{Acts}
 use Rattle.edges.specs.declared.Device.{Device}
@@ -110,14 +109,13 @@ abbrev pub device_mark : Device → (place : ℕ) → Mark
 device_mark D i = mark_at D.at D.no D.need i
 
 -- rule 20 counts from the later of a DLL reset and an SRX
-unfoldable pub rests_of : Chip → (place : ℕ) → Device → Rests
-rests_of C n D =
+unfoldable pub rests_of : Device → Rests
+rests_of D =
     record {
       refreshed = device_mark D REF;
       tuned = device_mark D ZQ;
       reset = cond (ltb (get_or D.no DLL 0) (get_or D.no SRX 0)) (record { at = get_or D.at SRX 0; num = get_or D.no SRX 0; need = 512 }) (device_mark D DLL);
       woke = device_mark D SRX;
-      risen = rise_mark n C.txs;
       slept = device_mark D SRE;
       turned = device_mark D CKE;
       left = device_mark D PDX;
@@ -141,13 +139,13 @@ written_of D =
     }
 
 -- what rules 4 to 30 look at; now, level and debt they do not
-unfoldable pub shared_of : Chip → Banks → Acts → Device → (place : ℕ) → Shared
-shared_of C B A D n =
+unfoldable pub shared_of : Chip → Banks → Acts → Device → Shared
+shared_of C B A D =
     record {
       now = 0;
       level = true;
       acts = acts_of C A;
-      rests = rests_of C n D;
+      rests = rests_of D;
       debt = record { sleeps = false; phase = 0; owed = 0; gap = 0 };
       regs = regs_of D;
       written = written_of D;

@@ -59,7 +59,6 @@ pub struct Device {
 }
 
 // One rank: edge and count go on after a break; the rest stays as it was just before the broken edge. first: the break, or all 0. level: of CKE.
-// place: after power-up the place of the next command in the order of the first five, 1 to 5, or 6 behind it; 0 where CKE has not risen after a reset.
 #[derive(Drop)]
 pub struct Rank {
     pub edge: u64,
@@ -71,23 +70,6 @@ pub struct Rank {
     pub waits: Waits,
     pub acts: Acts,
     pub device: Device,
-    pub place: u64,
-}
-
-// RESET falls at a record: whether a deadline before its edge is broken, and the rank, stopped there if so.
-#[derive(Drop)]
-pub struct Lowered {
-    pub broken: bool,
-    pub rank: Rank,
-}
-
-// One rank over resets: the stretch that it is in, and what the stretch is counted from, the edge `base` and `before` records. In reset the rank is as
-// it is before the first record.
-#[derive(Drop)]
-pub struct Stretch {
-    pub base: u64,
-    pub before: u32,
-    pub rank: Rank,
 }
 
 // What was asked since a section began: of an ACT, a RD, a WR and a PRE on every bank; by rule 5 of a REF, an MRS, a ZQ and an SRE (idle); by

@@ -17,13 +17,12 @@ use Rattle.answers.specs.Answer.{verdict_bytes}
 use Rattle.answers.proofs.Answers.{twenty}
 use Rattle.answers.specs.Back.{verdict_in, Fits}
 use Rattle.answers.proofs.Back.{read_back}
-use Rattle.rules.specs.Verdict.{Outcome, clean, stop, shown}
-use Rattle.rules.specs.Power.{count_of, line_till}
-use Rattle.rules.proofs.Lines.{Stepped}
-use Rattle.sections.specs.Recording.{line, whole_refusal, needed, judge_code, whole_verdict}
+use Rattle.rules.specs.Past.{number}
+use Rattle.rules.specs.Verdict.{Outcome, clean, stop, verdict_to, shown, Apart}
+use Rattle.sections.specs.Recording.{past, whole_refusal, needed, judge_code, whole_verdict}
 use Rattle.sections.proofs.Recordings.{good}
-use Rattle.means.proofs.Lines.{line_clean, line-broken, line-named}
-use Rattle.means.proofs.LineFitting.{line-fits}
+use Rattle.means.proofs.Means.{clean-means, broken-means, never-fine}
+use Rattle.means.proofs.Fitting.{shown-fits}
 use Rattle.firmware.specs.Calls.{answer_bytes, Judge}
 use Rattle.firmware.specs.Meaning.{part, Meaning}
 
@@ -31,7 +30,7 @@ use Rattle.firmware.specs.Meaning.{part, Meaning}
 pub verdict-fits : (second : Bool) (bs : List ℕ) (end : ℕ) → whole_refusal bs end ≡ 0 → Fits (whole_verdict second bs end)
 unfolding whole_verdict
 verdict-fits second bs end h =
-    let g = good bs end h in line-fits _ g.least (line second bs) (g.stepped second) (g.few second) end g.near
+    let g = good bs end h in shown-fits _ g.least (past second bs) (g.apart second) (g.few second) end g.near
 
 -- a call that answers 0 had room for the verdict, and the recording was not refused
 not-refused : (bs : List ℕ) (end room : ℕ) → judge_code bs end room ≡ 0 → whole_refusal bs end ≡ 0
@@ -51,20 +50,20 @@ byte bytes v e = ap (λ (w : Verdict). w.outcome) e
 meant : (second : Bool) (bs : List ℕ) (end : ℕ) → whole_refusal bs end ≡ 0 → (bytes : List ℕ) → verdict_in bytes ≡ whole_verdict second bs end
     → Meaning second bs end bytes
 unfolding whole_verdict
-meant second bs end h bytes e = go ((good bs end h).stepped second) (line_till (part bs) (line second bs) end) refl e
+meant second bs end h bytes e = go ((good bs end h).apart second) (verdict_to (part bs) (past second bs) end) refl e
   where
-    go : Stepped (line second bs) → (o : Outcome) → line_till (part bs) (line second bs) end ≡ o → verdict_in bytes ≡ shown o (count_of (line second bs)) end → Meaning second bs end bytes
-    go st clean c b =
+    go : Apart (past second bs) → (o : Outcome) → verdict_to (part bs) (past second bs) end ≡ o → verdict_in bytes ≡ shown o (number (past second bs)) end → Meaning second bs end bytes
+    go apart clean c b =
         let zero : get_or bytes 0 0 ≡ 0 = byte bytes _ b in
         record {
-          clean = (λ _. (line_clean (part bs) (line second bs) st end).0 c, λ _. zero);
+          clean = (λ _. (clean-means (part bs) (past second bs) apart end).0 c, λ _. zero);
           clean-fields = λ _. b;
           broken = λ n. absurd (n zero);
         }
-    go st (stop t n Fine) c b = absurd (line-named (part bs) (line second bs) st end t n c)
-    go st (stop t n (Broken k x m f)) c b =
+    go apart (stop t n Fine) c b = absurd (never-fine (part bs) (past second bs) apart end t n c)
+    go apart (stop t n (Broken k x m f)) c b =
         let one : get_or bytes 0 0 ≡ 1 = byte bytes _ b in
-        let w = line-broken (part bs) (line second bs) st end t n k x m f c in
+        let w = broken-means (part bs) (past second bs) apart end t n k x m f c in
         record {
           clean = (
             λ z. absurd (omega arith),

@@ -26,7 +26,7 @@ Widening recording before r after = Widen recording before r after
 abbrev pub Narrowing : (recording before : List ℕ) (r : ℕ) (after : List ℕ) → Type 0
 Narrowing recording before r after = Narrow recording before r after
 
--- the 20 bytes of the verdict by the 32 rules; of edition 2 "one verdict per rank (40 bytes, first rank first)"
+-- the 20 bytes of the verdict by the 31 rules; of edition 2 "one verdict per rank (40 bytes, first rank first)"
 unfoldable pub answer_bytes : (recording : List ℕ) (end : ℕ) → List ℕ
 answer_bytes bs end =
     cond (eqb (edition_for bs) 2)

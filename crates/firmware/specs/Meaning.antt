@@ -6,9 +6,10 @@ use Rattle.chip.specs.declared.Chip.{Chip}
 use Rattle.chip.specs.Chip.{chip_of}
 use Rattle.answers.specs.declared.Verdict.{Verdict}
 use Rattle.answers.specs.Back.{verdict_in}
-use Rattle.rules.specs.Power.{count_of}
-use Rattle.sections.specs.Recording.{header_bytes, line}
-use Rattle.means.specs.Lines.{LineBreaks, Line-means}
+use Rattle.rules.specs.Past.{number}
+use Rattle.sections.specs.Recording.{header_bytes, past}
+use Rattle.means.specs.Breaks.{BreaksAt}
+use Rattle.means.specs.Means.{Broken-means}
 
 -- the part that a recording's header tells
 abbrev pub part : List ℕ → Chip
@@ -21,8 +22,8 @@ clean_verdict n end = record { outcome = 0; rule = 0; number = n; partner = 0; e
 -- of a rank, whose verdict stands at the front of the bytes
 pub record Meaning (second : Bool) (recording : List ℕ) (end : ℕ) (bytes : List ℕ) : Type 0 where
   -- byte 0 is 0 exactly when nothing breaks any rule up to the end edge
-  pub clean : (get_or bytes 0 0 ≡ 0) ↔ ((t rule : ℕ) → 0 < t → t ≤ end → LineBreaks (part recording) (line second recording) t rule → ⊥)
-  pub clean-fields : get_or bytes 0 0 ≡ 0 → verdict_in bytes ≡ clean_verdict (count_of (line second recording)) end
+  pub clean : (get_or bytes 0 0 ≡ 0) ↔ ((t rule : ℕ) → 0 < t → t ≤ end → BreaksAt (part recording) (past second recording) t rule → ⊥)
+  pub clean-fields : get_or bytes 0 0 ≡ 0 → verdict_in bytes ≡ clean_verdict (number (past second recording)) end
   -- else the fields read back are the earliest broken edge, the least rule there, its record, and the pair that 01 names
   pub broken : (get_or bytes 0 0 ≡ 0 → ⊥) →
-      let v = verdict_in bytes in Line-means (part recording) (line second recording) end v.edge v.number v.rule v.partner v.needed v.found
+      let v = verdict_in bytes in Broken-means (part recording) (past second recording) end v.edge v.number v.rule v.partner v.needed v.found

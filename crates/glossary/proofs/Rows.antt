@@ -1,5 +1,4 @@
--- A record that is not in reset and shows a row is of that row's kind, by the definition that the rules and the tally go by; and each such record
--- shows one row.
+-- A record that shows a row is of that row's kind, by the definition that the rules and the tally go by; and each record shows one row.
 -- One test, computed over all levels and all rows.
 -- Assumes nothing.
 use Prim.Native.Nat.{ℕ, zero, suc, ◌+◌, ◌<◌, ◌≤◌}
@@ -7,14 +6,15 @@ use native.Mathlib.Omega.{arith}
 use native.Mathlib.Decide.{ℕ_discrete}
 use mathlib.Core.Bool.{Bool, true, false, cond, ◌&&◌}
 use mathlib.Core.Path.{◌≡◌, refl, sym, ◌∙◌, subst}
-use lib.Dec.{eqb}
-use borrow.Author.Tests.{eqb-true, le-ltb}
+use lib.Dec.{eqb, ltb}
+use borrow.Author.Tests.{eqb-true, le-ltb, ltb-true, ltb-false}
 use Rattle.laws.proofs.Both.{both}
 use Rattle.records.specs.declared.Record.{Record}
 use Rattle.records.specs.declared.Command.TheVariants.{Low}
 use Rattle.records.specs.Command.{by_pins, falling, rising, command_of, a10}
 use Rattle.records.specs.Record.{fields_of}
 use Rattle.tally.specs.Kinds.{kind_of, kind_at}
+use Rattle.glossary.specs.declared.Row.{Row}
 use Rattle.glossary.specs.Glossary.{rows, row_of, shows_by, shows, shown_below}
 
 -- the kind, by levels alone
@@ -72,9 +72,9 @@ right-at before now asleep a pins l =
 -- ── What the rows say ───────────────────────────────────────────────────────────────────────
 
 -- behind the last place there is the last row again
-pub last_row : (i : ℕ) → 30 ≤ i → row_of i ≡ row_of 29
+pub last_row : (i : ℕ) → 28 ≤ i → row_of i ≡ row_of 27
 unfolding row_of
-last_row i h = rw (le-ltb i 29 (omega arith))
+last_row i h = rw (le-ltb i 27 (omega arith))
 
 module _ (before asleep : Bool) (r : Record) (fit : r.pins < 16) where
   -- by levels
@@ -83,14 +83,24 @@ module _ (before asleep : Bool) (r : Record) (fit : r.pins < 16) where
       both (each 28 (agrees before r.cke asleep r.pins (a10 r))) (eqb (shown_of 28 before r.cke asleep r.pins (a10 r)) 1)
       (right-at before r.cke asleep (a10 r) r.pins fit)
 
-  -- a record that shows a row is of its kind: of the rows that are not of resets
-  pub row-gives-kind : (i : ℕ) → i < 28 → shows (row_of i) before asleep r ≡ true → kind_at before asleep r ≡ (row_of i).kind
-  row-gives-kind i l h =
+  kind-below : (i : ℕ) → i < 28 → shows (row_of i) before asleep r ≡ true → kind_at before asleep r ≡ (row_of i).kind
+  kind-below i l h =
       kind-by before asleep r
       ∙ eqb-true (kind_by before r.cke asleep r.pins (a10 r)) (row_of i).kind
       (rw h at (each_at 28 (agrees before r.cke asleep r.pins (a10 r)) parts.0 i l))
 
-  -- each record shows one of them, and no other
+  -- a record that shows a row is of its kind
+  pub row-gives-kind : (i : ℕ) → shows (row_of i) before asleep r ≡ true → kind_at before asleep r ≡ (row_of i).kind
+  row-gives-kind i h = go (ltb i 28) refl
+    where
+      go : (y : Bool) → ltb i 28 ≡ y → kind_at before asleep r ≡ (row_of i).kind
+      go true e = kind-below i (ltb-true i 28 e) h
+      go false e =
+          let same = last_row i (ltb-false i 28 e) in
+          subst (λ (w : Row). kind_at before asleep r ≡ w.kind) (sym same)
+          (kind-below 27 (omega arith) (subst (λ (w : Row). shows w before asleep r ≡ true) same h))
+
+  -- each record shows one row, and no other
   pub one-row : shown_below 28 before asleep r ≡ 1
   one-row = eqb-true (shown_below 28 before asleep r) 1 parts.1
 

@@ -1,4 +1,4 @@
--- The rows by which a record is of a kind, with its name and its meaning: 01, "Commands and the 25 rules", first paragraph, and 02, Q-1 and Q-8, as a table.
+-- The rows by which a record is of a kind, with its name and its meaning: 01, "Commands and the 25 rules", first paragraph, and 02, Q-1, as a table.
 -- Assumes nothing.
 use Rattle.std.specs.Prelude.{ℕ, zero, suc, ◌+◌, ◌/◌, ◌%◌, Bool, true, false, cond, ◌&&◌, ◌||◌, List, [], ◌∷◌, eqb, ltb, get_or}
 use Prim.Native.String.{String}
@@ -24,8 +24,7 @@ row kind name before now asleep cs ras cas we a10 meaning = record {
 
 -- The kind, its name, CKE before and now, asleep before, CS RAS CAS WE, A10, what it means. "0010 PRE (A10: all banks)", "0100 WR, 0101 RD (A10:
 -- auto precharge)", "0110 ZQ (A10: long)"; "CKE falling with 0001 is SRE"; "CKE rising with NOP or DES is SRX", of a part that is asleep; "CKE
--- staying low: pins ignored"; rule 1, "Any other CKE change"; 02, Q-1, "drops CKE with NOP or DES", and the rise behind it. The last two rows are
--- those of 02, Q-8: in reset "pins are ignored", and the rise that ends it is told by what was before, so that their levels give no kind
+-- staying low: pins ignored"; rule 1, "Any other CKE change"; 02, Q-1, "drops CKE with NOP or DES", and the rise behind it
 unfoldable pub rows : List Row
 rows =
     row 0 "MRS" 1 1 x 0 0 0 0 x "writes the mode register that BA names"
@@ -56,8 +55,6 @@ rows =
     ∷ row 17 "PDE" 1 0 x 1 x x x x "power-down entry: CKE falls with a NOP or a DES"
     ∷ row 18 "PDX" 0 1 0 0 1 1 1 x "power-down exit: CKE rises with a NOP or a DES"
     ∷ row 18 "PDX" 0 1 0 1 x x x x "power-down exit: CKE rises with a NOP or a DES"
-    ∷ row 19 "RESET" x x x x x x x x "in reset: the pins are ignored until CKE rises"
-    ∷ row 20 "RISE" 0 1 x x x x x x "the rise of CKE that ends a reset"
     ∷ []
 
 -- a place, or the last one
@@ -69,7 +66,7 @@ abbrev pub blank : Row
 blank = record { kind = 0; name = []; levels = []; meaning = [] }
 
 unfoldable pub row_of : (place : ℕ) → Row
-row_of i = get_or rows (within 29 i) blank
+row_of i = get_or rows (within 27 i) blank
 
 -- the first of n places from i on whose row is of the kind; the place behind them if there is none
 abbrev pub place_from : (n i kind : ℕ) → ℕ
@@ -78,19 +75,19 @@ place_from (suc n) i k = cond (eqb (row_of i).kind k) i (place_from n (i + 1) k)
 
 -- the place of the first row of a kind; the last place if there is none
 unfoldable pub place_of : (kind : ℕ) → ℕ
-place_of k = place_from 29 0 k
+place_of k = place_from 27 0 k
 
 -- ── A row as a report prints it ─────────────────────────────────────────────────────────────
 
--- the count of a kind in a tally; there are twenty-one
+-- the count of a kind in a tally; there are nineteen
 abbrev pub count_in : (counts : List ℕ) (kind : ℕ) → ℕ
-count_in counts k = cond (ltb k 21) (get_or counts k 0) 0
+count_in counts k = cond (ltb k 19) (get_or counts k 0) 0
 
 -- with the count of its own kind
 unfoldable pub line_of : (place : ℕ) (counts : List ℕ) → Line
 line_of i counts = record { row = row_of i; first = eqb (place_of (row_of i).kind) i; count = count_in counts (row_of i).kind }
 
--- ── Which rows a record shows that is not in reset ──────────────────────────────────────────
+-- ── Which rows a record shows ───────────────────────────────────────────────────────────────
 
 -- the level of a pin is that of the row, or the row takes any
 abbrev pub fits : (row pin : ℕ) → Bool

@@ -1,5 +1,5 @@
 // The glossary of the tally's kinds: the name of each, the levels of CKE and of the pins by which a record is of that kind, and what it
-// means, in one table. The report prints its rows, and they are those of the definition: 01, "Commands and the 25 rules", and 02, Q-1 and Q-8.
+// means, in one table. The report prints its rows, and they are those of the definition: 01, "Commands and the 25 rules", and 02, Q-1.
 mod table;
 
 ghost use Rattle.std.specs.Prelude.{◌≡◌, ◌<◌};
@@ -25,7 +25,7 @@ pub struct Line {
     pub count: u64,
 }
 
-// The row at a place, counted from 0; behind the last place, 29, the last row.
+// The row at a place, counted from 0; behind the last place, 27, the last row.
 pub fn row_at(place: usize) -> Row
     ensures { RowAt place result }
 {
@@ -41,7 +41,7 @@ pub fn row_of(kind: u64) -> Row
 }
 
 // The row at a place, with the count of its own kind.
-pub fn line_at(place: usize, counts: [u64; 21]) -> Line
+pub fn line_at(place: usize, counts: [u64; 19]) -> Line
     ensures { LineAt place counts result }
 {
     let w = row_at(place);
@@ -55,10 +55,10 @@ pub fn line_at(place: usize, counts: [u64; 21]) -> Line
 }
 
 fn place_of(kind: u64) -> usize
-    ensures { (result ≡ defs.place_of kind) × (result < 30) }
+    ensures { (result ≡ defs.place_of kind) × (result < 28) }
 {
     let mut i: usize = 0;
-    while i < 29 {
+    while i < 27 {
         let w = row_at(i);
         if w.kind == kind {
             return i;
@@ -68,10 +68,10 @@ fn place_of(kind: u64) -> usize
     i
 }
 
-fn count_in(counts: [u64; 21], kind: u64) -> u64
+fn count_in(counts: [u64; 19], kind: u64) -> u64
     ensures { result ≡ defs.count_in counts kind }
 {
-    if kind < 21 {
+    if kind < 19 {
         let k = kind as usize;
         return counts[k];
     }
@@ -79,10 +79,10 @@ fn count_in(counts: [u64; 21], kind: u64) -> u64
 }
 
 fn within(place: usize) -> usize
-    ensures { (result ≡ defs.within 29 place) × (result < 30) }
+    ensures { (result ≡ defs.within 27 place) × (result < 28) }
 {
-    if place < 29 {
+    if place < 27 {
         return place;
     }
-    29
+    27
 }

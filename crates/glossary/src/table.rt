@@ -1,9 +1,8 @@
 // The glossary's table: a row for each set of levels by which a record is of a kind, those of a kind together, the kinds in the
-// tally's order. The last two are of records in reset and at its end: RESET and CKE before make them what they are, and their pins are ignored. A
-// text is filled up with spaces.
+// tally's order. A text is filled up with spaces.
 use crate::Row;
 
-pub(crate) const ROWS: [Row; 30] = [
+pub(crate) const ROWS: [Row; 28] = [
     Row {
         kind: 0,
         name: *b"MRS      ",
@@ -171,17 +170,5 @@ pub(crate) const ROWS: [Row; 30] = [
         name: *b"PDX      ",
         levels: [0, 1, 0, 1, 2, 2, 2, 2],
         meaning: *b"power-down exit: CKE rises with a NOP or a DES      ",
-    },
-    Row {
-        kind: 19,
-        name: *b"RESET    ",
-        levels: [2, 2, 2, 2, 2, 2, 2, 2],
-        meaning: *b"in reset: the pins are ignored until CKE rises      ",
-    },
-    Row {
-        kind: 20,
-        name: *b"RISE     ",
-        levels: [0, 1, 2, 2, 2, 2, 2, 2],
-        meaning: *b"the rise of CKE that ends a reset                   ",
     },
 ];

@@ -7,7 +7,7 @@ use lib.Dec.{eqb}
 use Rattle.units.proofs.Rounding.{up-most, down-most}
 use Rattle.header.specs.declared.Header.{Header}
 use Rattle.header.specs.Bins.{Bin, bin0, bin1, bin2, bin3, bin_of, row_of}
-use Rattle.header.specs.Counts.{row, t_rcd, t_rp, t_rc, t_ras, t_rrd, t_faw, t_cke, t_rtp, t_wtr, t_wr, t_mrd, t_mod, t_rfc, t_xs, zq_long, zq_short, zq_init, most_ras, t_refi, t_xp, t_xpdll, nine_refi}
+use Rattle.header.specs.Counts.{row, t_rcd, t_rp, t_rc, t_ras, t_rrd, t_faw, t_cke, t_rtp, t_wtr, t_wr, t_mrd, t_mod, t_rfc, t_xs, zq_long, zq_short, most_ras, t_refi, t_xp, t_xpdll, nine_refi}
 
 -- what holds of the four rows holds of the row of every bin
 pub by-bin : (P : Bin → Type 0) → P bin0 → P bin1 → P bin2 → P bin3 → (b : ℕ) → P (bin_of b)
@@ -55,7 +55,6 @@ pub record Bounds (h : Header) : Type 0 where
   pub xs : (t_xs h).clocks ≤ 170000
   pub long : (zq_long h).clocks ≤ 320000
   pub short : (zq_short h).clocks ≤ 80000
-  pub init : (zq_init h).clocks ≤ 640000
   pub most : (most_ras h).clocks ≤ 70000000
   pub refi : (t_refi h).clocks ≤ 7800000
   pub xp : (t_xp h).clocks ≤ 7500
@@ -90,7 +89,6 @@ bounds h =
       xs = omega (arith, up-most (cond h.dense 160000 110000 + 10000) p);
       long = omega (arith, up-most 320000 p);
       short = omega (arith, up-most 80000 p);
-      init = omega (arith, up-most 640000 p);
       most = omega (arith, down-most (cond h.hot 35100000 70000000) p);
       refi = omega (arith, down-most (cond h.hot 3900000 7800000) p);
       xp = omega (arith, up-most (cond (eqb (row_of h.bin) 0) 7500 6000) p);

@@ -84,10 +84,6 @@ zq_long h = least_or h 320000 256
 abbrev pub zq_short : Header → Clocks
 zq_short h = least_or h 80000 64
 
--- Q-8: "a long ZQ lasting 640000 ps, at least 512 clocks"
-abbrev pub zq_init : Header → Clocks
-zq_init h = least_or h 640000 512
-
 -- "Greatest t_ras 70,000,000. t_refi 7,800,000, hot 3,900,000, rounded down."; Q-2: "a hot part has 35,100,000 ps, not 70,000,000"
 abbrev pub most_ras : Header → Clocks
 most_ras h = greatest h (cond h.hot 35100000 70000000)

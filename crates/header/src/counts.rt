@@ -1,7 +1,7 @@
 // The clock counts of a header: each time of 01's "Clock counts" in clocks of the header's period.
 ghost use Rattle.std.specs.Prelude.{◌≡◌, ◌+◌, ◌<◌, cond};
 ghost use Rattle.header.specs.Bins.{time_at};
-ghost use Rattle.header.specs.Counts.{row, least, least_or, greatest, t_rcd, t_rp, t_rc, t_ras, t_rrd, t_faw, t_cke, t_rtp, t_wtr, t_wr, t_mrd, t_mod, t_rfc, t_xs, zq_long, zq_short, zq_init, most_ras, t_refi, t_xp, t_xpdll, nine_refi};
+ghost use Rattle.header.specs.Counts.{row, least, least_or, greatest, t_rcd, t_rp, t_rc, t_ras, t_rrd, t_faw, t_cke, t_rtp, t_wtr, t_wr, t_mrd, t_mod, t_rfc, t_xs, zq_long, zq_short, most_ras, t_refi, t_xp, t_xpdll, nine_refi};
 ghost use Rattle.header.specs.Promises.{Counted};
 
 use crate::Header;
@@ -109,13 +109,6 @@ impl Header {
         ensures { Counted zq_short self result }
     {
         least_or(self, 80000, 64)
-    }
-
-    // Of the first ZQ after power-up.
-    pub fn zqinit(self) -> Clocks
-        ensures { Counted zq_init self result }
-    {
-        least_or(self, 640000, 512)
     }
 
     pub fn mostras(self) -> Clocks

@@ -1,20 +1,17 @@
--- One answer for each public contract: opening, a section, the last edge, closing.
+-- One answer for each public contract: opening, a section, closing.
 -- Assumes nothing.
 use Prim.Native.Nat.{ℕ}
 use mathlib.Core.List.{List}
 use Rattle.laws.proofs.Unique.{Unique, one_answer}
 use Rattle.judge.specs.declared.State.{State}
-use Rattle.judge.specs.Calls.{open_of, section_of, last_of, close_of}
-use Rattle.judge.specs.Promises.{Open, Section, Last, Close}
+use Rattle.judge.specs.Calls.{open_of, section_of, close_of}
+use Rattle.judge.specs.Promises.{Open, Section, Close}
 
 pub open-unique : (header : List ℕ) → Unique (Open header)
 open-unique header = one_answer (open_of header)
 
 pub section-unique : (s : State) (bytes : List ℕ) → Unique (Section s bytes)
 section-unique s bytes = one_answer (section_of s bytes)
-
-pub last-unique : (s : State) → Unique (Last s)
-last-unique s = one_answer (last_of s)
 
 pub close-unique : (s : State) (end : ℕ) → Unique (Close s end)
 close-unique s end = one_answer (close_of s end)

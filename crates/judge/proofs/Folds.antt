@@ -67,7 +67,7 @@ module _ (C : Chip) (small : Small C) where
 
 -- ── Broken or not, a rank goes on by each record's step ─────────────────────────────────────
 
-pub step-on : (C : Chip) (n : Rank) (r : Record) → ((step_of C n r).edge ≡ n.edge + r.step) × ((step_of C n r).count ≡ n.count + 1)
+step-on : (C : Chip) (n : Rank) (r : Record) → ((step_of C n r).edge ≡ n.edge + r.step) × ((step_of C n r).count ≡ n.count + 1)
 unfolding step_of moved_of stopped_of
 step-on C n r = go (is_clean n.first) (is_clean (says_of C n r))
   where

@@ -2,11 +2,5 @@ pub mod Folds
 pub mod Pairs
 pub mod Counted
 pub mod Ranging
-pub mod Stretching
-pub mod Told
-pub mod Resetting
-pub mod Keeping
-pub mod Runs
-pub mod Walks
 pub mod Sections
 pub mod Answers

@@ -1,6 +1,5 @@
 -- Opening, a section and closing, for every state and every input: 01, "The recording", below the table of refusals, and 02, Q-7.
 -- Assumes nothing.
-use Rattle.records.specs.Wired.{power_after}
 use Rattle.std.specs.Prelude.{ℕ, true, false, cond, ◌||◌, List, eqb, ltb}
 use Rattle.header.specs.declared.Header.{Header}
 use Rattle.header.specs.declared.Parsed.{Parsed}
@@ -8,14 +7,15 @@ use Rattle.header.specs.declared.Parsed.TheVariants.{Taken as TakenHeader, Refus
 use Rattle.header.specs.Bytes.{edition_for, parsed_of}
 use Rattle.answers.specs.declared.End.{End}
 use Rattle.answers.specs.declared.Verdict.{Verdict}
-use Rattle.wide.specs.Editions.{wires, refusal}
+use Rattle.records.specs.Record.{records}
+use Rattle.wide.specs.Editions.{view, refusal}
 use Rattle.chip.specs.Chip.{chip_of}
 use Rattle.running.specs.Said.{no_verdict}
 use Rattle.running.specs.Ranges.{last_edge}
 use Rattle.running.specs.Ends.{no_end}
-use Rattle.edges.specs.declared.Stretch.{Stretch}
-use Rattle.edges.specs.Ends.{fresh_rank}
-use Rattle.edges.specs.Stretch.{start_stretch, stretch_after, counted, reached, so_far_in, stretch_end}
+use Rattle.edges.specs.declared.Rank.{Rank}
+use Rattle.edges.specs.Step.{fold_of, so_far}
+use Rattle.edges.specs.Ends.{fresh_rank, start_rank, end_of, ended_of}
 use Rattle.judge.specs.declared.State.{State}
 use Rattle.judge.specs.declared.Opened.{Opened}
 use Rattle.judge.specs.declared.Taken.{Taken}
@@ -24,22 +24,19 @@ use Rattle.judge.specs.Ranges.{in_range}
 
 -- ── Opening ─────────────────────────────────────────────────────────────────────────────────
 
-abbrev pub holding : Header → (edition power : ℕ) → (one two : Stretch) → State
-holding h e n one two = record { header = h; edition = e; power = n; one = one; two = two }
+abbrev pub holding : Header → (edition : ℕ) → (one two : Rank) → State
+holding h e one two = record { header = h; edition = e; one = one; two = two }
 
 -- "At first all banks are idle and no wait runs"; "CKE is high before the first record"; "Refresh debt starts at 0"
 abbrev pub start_of : Header → (edition : ℕ) → State
-start_of h e = holding h e 0 (start_stretch (chip_of h)) (start_stretch (chip_of h))
+start_of h e = holding h e (start_rank (chip_of h)) (start_rank (chip_of h))
 
 -- a refused opening hands out the state of zeros
 abbrev pub no_header : Header
 no_header = record { bin = 0; dense = false; wide = false; hot = false; period = record { ps = 0 } }
 
-abbrev pub no_stretch : Stretch
-no_stretch = record { base = 0; before = 0; rank = fresh_rank false 0 0 }
-
 abbrev pub zeros : State
-zeros = holding no_header 0 0 no_stretch no_stretch
+zeros = holding no_header 0 (fresh_rank false 0 0) (fresh_rank false 0 0)
 
 -- "Opening checks 1, 2, 3, 4": by the cases of the header's answer
 abbrev pub opened_by : (edition : ℕ) → Parsed → Opened
@@ -60,17 +57,17 @@ abbrev pub refuse : ℕ → State → Taken
 refuse n s = record { refused = n; state = s; verdict = no_verdict; second = no_verdict }
 
 abbrev pub second_verdict : State → Verdict
-second_verdict s = of_second s.edition (so_far_in s.two) no_verdict
+second_verdict s = of_second s.edition (so_far s.two) no_verdict
 
 abbrev pub take : State → Taken
-take s = record { refused = 0; state = s; verdict = so_far_in s.one; second = second_verdict s }
+take s = record { refused = 0; state = s; verdict = so_far s.one; second = second_verdict s }
 
--- the state after the records, as each rank sees them; RESET and CKE are the same for both
+-- the state after the records, as each rank sees them
 abbrev pub folded : State → (bytes : List ℕ) → State
 folded s bs =
-    holding s.header s.edition (power_after s.power (wires s.edition false bs))
-    (stretch_after (chip_of s.header) s.power s.one (wires s.edition false bs))
-    (stretch_after (chip_of s.header) s.power s.two (wires s.edition true bs))
+    holding s.header s.edition
+    (fold_of (chip_of s.header) s.one (records (view s.edition false bs)))
+    (fold_of (chip_of s.header) s.two (records (view s.edition true bs)))
 
 -- taken or refused, by the number of the refusal
 abbrev pub taken_by : (refusal : ℕ) → State → (bytes : List ℕ) → Taken
@@ -78,7 +75,7 @@ taken_by n s bs = cond (eqb n 0) (take (folded s bs)) (refuse n s)
 
 -- "a section 17, 5, 7, 6, 14". "A section is taken or refused as one"
 unfoldable pub section_of : State → (bytes : List ℕ) → Taken
-section_of s bs = cond (in_range s) (taken_by (refusal s.edition (counted s.one) bs) s bs) (refuse 17 s)
+section_of s bs = cond (in_range s) (taken_by (refusal s.edition s.one.count bs) s bs) (refuse 17 s)
 
 -- ── Closing ─────────────────────────────────────────────────────────────────────────────────
 
@@ -90,17 +87,16 @@ abbrev pub not_closed : ℕ → Closed
 not_closed n = record { refused = n; end = no_end; second = no_end }
 
 abbrev pub second_end : State → (end : ℕ) → End
-second_end s t = of_second s.edition (stretch_end (chip_of s.header) s.power s.two t) no_end
+second_end s t = of_second s.edition (end_of (chip_of s.header) s.two t) no_end
 
--- the last record's edge; 0 of a state that closing refuses at every edge
-unfoldable pub last_of : State → ℕ
-last_of s = cond (in_range s) (reached s.one) 0
+-- the same, with the checks that a rank makes by itself
+abbrev pub second_ended : State → (end : ℕ) → End
+second_ended s t = of_second s.edition (ended_of (chip_of s.header) s.two t) no_end
 
 -- "closing 17, 8"
 -- | 8 | end edge before the last record's, or above 2^44 |
 unfoldable pub close_of : State → (end : ℕ) → Closed
 close_of s t =
     cond (in_range s)
-    (cond (ltb t (reached s.one) || ltb last_edge t) (not_closed 8)
-    (closed (stretch_end (chip_of s.header) s.power s.one t) (second_end s t)))
+    (cond (ltb t s.one.edge || ltb last_edge t) (not_closed 8) (closed (end_of (chip_of s.header) s.one t) (second_end s t)))
     (not_closed 17)

@@ -19,7 +19,7 @@ pair_of zero spare one two = record { zero = zero; spare = spare; one = one; two
 
 -- before a section
 abbrev pub begun_of : State → Pair
-begun_of s = pair_of false false s.one.rank s.two.rank
+begun_of s = pair_of false false s.one s.two
 
 -- after all of its records, if no step is 0
 abbrev pub after_of : Chip → Pair → (bytes : List ℕ) → Pair

@@ -6,7 +6,7 @@ use Rattle.judge.specs.declared.State.{State}
 use Rattle.judge.specs.declared.Opened.{Opened}
 use Rattle.judge.specs.declared.Taken.{Taken}
 use Rattle.judge.specs.declared.Closed.{Closed}
-use Rattle.judge.specs.Calls.{open_of, section_of, last_of, close_of}
+use Rattle.judge.specs.Calls.{open_of, section_of, close_of}
 
 -- `State::open`
 abbrev pub Open : (header : List ℕ) (r : Opened) → Type 0
@@ -15,10 +15,6 @@ Open header r = r ≡ open_of header
 -- `State::section`
 abbrev pub Section : (s : State) (bytes : List ℕ) (r : Taken) → Type 0
 Section s bytes r = r ≡ section_of s bytes
-
--- `State::last`
-abbrev pub Last : (s : State) (r : ℕ) → Type 0
-Last s r = r ≡ last_of s
 
 -- `State::close`
 abbrev pub Close : (s : State) (end : ℕ) (r : Closed) → Type 0

@@ -42,7 +42,7 @@ fn counted(start: Pair, bytes: &[u8]) -> Pair
     pair(steps.zero, start.spare | steps.spare, one, two)
 }
 
-pub(crate) fn later(n: Rank, steps: u64, records: u32) -> Rank
+fn later(n: Rank, steps: u64, records: u32) -> Rank
     requires steps_bound { n.edge + steps ≤ last_edge }
     requires records_bound { n.count + records ≤ limit }
     ensures { result ≡ later_of n steps records }

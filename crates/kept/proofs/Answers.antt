@@ -17,9 +17,8 @@ use Rattle.running.specs.declared.Mark.{Mark}
 use Rattle.running.specs.Marks.{needing}
 use Rattle.answers.specs.Answer.{or_else, lowest}
 use Rattle.running.specs.Down as down
-use Rattle.running.specs.Order as order
 use Rattle.running.specs.Breaks.{status_of, wants, barred_by, barred_at, speaks_of_all, rule3, rule23, when_is, spacings, joined}
-use Rattle.kept.specs.Promises.{Status, OrElse, SpeaksOfAll, Barred, FirstBarred, Rule3, Joined, Since, Needing, Spacings, LastRules, Rule26, Rule27, ExitRules, Ordering, PlaceNext, Rule32}
+use Rattle.kept.specs.Promises.{Status, OrElse, SpeaksOfAll, Barred, FirstBarred, Rule3, Joined, Since, Needing, Spacings, LastRules, Rule26, Rule27, ExitRules}
 
 pub since-unique : (e at : ℕ) → Unique (Since e at)
 since-unique e at = one_answer (e - at)
@@ -62,12 +61,3 @@ rule27-unique x e s = one_answer (down.rule27 x e s)
 
 pub exit-rules-unique : (c : Command) (e : ℕ) (s : Shared) → Unique (ExitRules c e s)
 exit-rules-unique c e s = one_answer (down.exit_rules c e s)
-
-pub ordering-unique : (n : ℕ) → Unique (Ordering n)
-ordering-unique n = one_answer (order.ordering n)
-
-pub place-next-unique : (c : Command) (n : ℕ) → Unique (PlaceNext c n)
-place-next-unique c n = one_answer (order.place_next c n)
-
-pub rule32-unique : (n : ℕ) (c : Command) (r : Record) → Unique (Rule32 n c r)
-rule32-unique n c r = one_answer (order.rule32 n c r)

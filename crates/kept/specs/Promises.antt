@@ -16,7 +16,6 @@ use Rattle.running.specs.declared.Shared.{Shared}
 use Rattle.running.specs.declared.Written.{Written}
 use Rattle.running.specs.Marks.{needing}
 use Rattle.running.specs.Down as down
-use Rattle.running.specs.Order as order
 use Rattle.running.specs.Breaks.{status_of, wants, barred_by, barred_at, speaks_of_all, rule3, rule23, when_is, spacings, joined}
 
 -- `status`
@@ -74,15 +73,3 @@ Rule27 changes e s x = x ≡ down.rule27 changes e s
 -- `exit_rules`: 29 and 30
 abbrev pub ExitRules : (c : Command) (e : ℕ) (s : Shared) (x : Break) → Type 0
 ExitRules c e s x = x ≡ down.exit_rules c e s
-
--- `ordering`
-abbrev pub Ordering : (place : ℕ) (x : Bool) → Type 0
-Ordering place x = x ≡ order.ordering place
-
--- `place_next`
-abbrev pub PlaceNext : (c : Command) (place : ℕ) (x : ℕ) → Type 0
-PlaceNext c place x = x ≡ order.place_next c place
-
--- `rule32`
-abbrev pub Rule32 : (place : ℕ) (c : Command) (r : Record) (x : Break) → Type 0
-Rule32 place c r x = x ≡ order.rule32 place c r

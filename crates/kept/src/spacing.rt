@@ -34,18 +34,11 @@ pub fn spacings(chip: Chip, c: Command, r: Record, e: u64, k: Kept, s: Shared) -
     }
 }
 
-// Rule 21: after SRX, or the rise of CKE that ended a reset.
-fn woken(e: u64, s: Shared, otherwise: Break) -> Break
-    ensures { result ≡ breaks.woken e s otherwise }
-{
-    spaced(21, e, s.rests.woke, spaced(21, e, s.rests.risen, otherwise))
-}
-
 // Rules 15, 17, 18, 21: after REF, MRS, ZQ, SRX to any command but MRS.
 fn waits(chip: Chip, e: u64, s: Shared, otherwise: Break) -> Break
     ensures { result ≡ breaks.waits chip e s otherwise }
 {
-    let b21 = woken(e, s, otherwise);
+    let b21 = spaced(21, e, s.rests.woke, otherwise);
     let b18 = spaced(18, e, s.rests.tuned, b21);
     let b17 = spaced(17, e, needing(chip.tmod, s.mrs), b18);
     spaced(15, e, s.rests.refreshed, b17)
@@ -66,7 +59,7 @@ fn of_act(chip: Chip, r: Record, e: u64, k: Kept, s: Shared) -> Break
 fn of_rd(chip: Chip, r: Record, e: u64, k: Kept, s: Shared) -> Break
     ensures { result ≡ breaks.spacings chip Rd r e k s }
 {
-    let b21 = woken(e, s, Break::Fine);
+    let b21 = spaced(21, e, s.rests.woke, Break::Fine);
     let b20 = spaced(20, e, s.rests.reset, b21);
     let b18 = spaced(18, e, s.rests.tuned, b20);
     let b17 = spaced(17, e, needing(chip.tmod, s.mrs), b18);
@@ -111,7 +104,7 @@ fn of_ref(chip: Chip, r: Record, e: u64, k: Kept, s: Shared) -> Break
 fn of_mrs(chip: Chip, r: Record, e: u64, k: Kept, s: Shared) -> Break
     ensures { result ≡ breaks.spacings chip Mrs r e k s }
 {
-    let b21 = woken(e, s, Break::Fine);
+    let b21 = spaced(21, e, s.rests.woke, Break::Fine);
     let b19 = spaced(19, e, as19(s.read), b21);
     let b18 = spaced(18, e, s.rests.tuned, b19);
     let b16 = spaced(16, e, s.mrs, b18);
@@ -123,7 +116,7 @@ fn of_sre(chip: Chip, r: Record, e: u64, k: Kept, s: Shared) -> Break
     ensures { result ≡ breaks.spacings chip Sre r e k s }
 {
     let b23 = rule23(s);
-    let b21 = woken(e, s, b23);
+    let b21 = spaced(21, e, s.rests.woke, b23);
     let b19 = spaced(19, e, as19(s.read), b21);
     let b18 = spaced(18, e, s.rests.tuned, b19);
     let b17 = spaced(17, e, needing(chip.tmod, s.mrs), b18);

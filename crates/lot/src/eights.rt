@@ -1,11 +1,16 @@
-// Sections of edition 2, whose records have eight bytes. Where a record stands is told through what is written for six: each rank's view of them.
-// Its kind is told by a walk of its own, which sees RESET.
+// Sections of edition 2, whose records have eight bytes, through what is written for six: each rank's view of them.
 use crate::text::put;
 use libc::STDOUT_FILENO;
-use tally::{Course, Sought, Spot};
+use tally::{Sought, Spot, Tallied, Tally};
 
 // A section's bytes, narrowed.
 const ROOM: usize = 6000;
+
+pub(crate) fn counted(t: Tally, second: bool, bytes: &[u8]) -> Tallied {
+    let mut space = [0u8; ROOM];
+    let part = wide::narrow_part(bytes, 0, second, &mut space);
+    t.section(&space[..part.len])
+}
 
 pub(crate) fn passed(spot: Spot, second: bool, bytes: &[u8]) -> Spot {
     let mut space = [0u8; ROOM];
@@ -17,15 +22,6 @@ pub(crate) fn find(spot: Spot, n: u64, second: bool, bytes: &[u8]) -> Sought {
     let mut space = [0u8; ROOM];
     let part = wide::narrow_part(bytes, 0, second, &mut space);
     spot.find(n, &space[..part.len])
-}
-
-// The kind of the record at a place of a section, behind the course of those before the section.
-pub(crate) fn kind(c: Course, second: bool, bytes: &[u8], at: usize) -> usize {
-    if bytes.len() < at {
-        return 0;
-    }
-    let to = c.wide_passed(second, &bytes[..at]);
-    to.wide_kind(second, bytes, at)
 }
 
 // Where a refused record begins: the one cut short (5), the first of step 0 (6), the first past the limit (7), the first with zero bits set (14).

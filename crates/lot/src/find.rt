@@ -2,19 +2,17 @@
 use crate::text::{hex, value};
 use crate::values::listed;
 use crate::{eights, values};
-use tally::{Course, Placed, Sought, Spot};
+use tally::{Placed, Sought, Spot};
 
 // The first file's place among the arguments.
 const FIRST: usize = 5;
 
-// The number that was listed last, the list's last, where the walk over the files stands, what the records so far leave behind in edition 2, the lot's
-// edition, and which rank sees the records.
+// The number that was listed last, the list's last, where the walk over the files stands, the lot's edition, and which rank sees the records.
 #[derive(Drop)]
 struct Search {
     last: u64,
     to: u64,
     spot: Spot,
-    course: Course,
     edition: u64,
     second: bool,
 }
@@ -24,7 +22,6 @@ pub(crate) fn list(from: u64, to: u64, limit: u64, second: bool, end: usize) {
         last: number_before(from),
         to: to,
         spot: Spot::start(limit),
-        course: Course::start(),
         edition: 1,
         second: second,
     };
@@ -102,7 +99,6 @@ fn section(s: Search, fd: i32) -> Search {
     let k = io::read_full(fd, &mut space);
     let mut n = all(s, &space[..k]);
     n.spot = passed(s, &space[..k]);
-    n.course = left(s, &space[..k]);
     n
 }
 
@@ -112,15 +108,6 @@ fn passed(s: Search, bytes: &[u8]) -> Spot {
         return eights::passed(spot, s.second, bytes);
     }
     spot.passed(bytes)
-}
-
-// Edition 1 has no RESET, and the walk tells the kinds there.
-fn left(s: Search, bytes: &[u8]) -> Course {
-    let course = s.course;
-    if s.edition == 2 {
-        return course.wide_passed(s.second, bytes);
-    }
-    course
 }
 
 // Lists what the section has of the numbers that are left.
@@ -155,16 +142,14 @@ fn find(s: Search, n: u64, bytes: &[u8]) -> Sought {
     spot.find(n, bytes)
 }
 
-// In edition 2 the walk counts six bytes a record too: the place is worked out from that, the kind told with RESET, and the record's own bytes are
-// shown.
+// In edition 2 the walk counts six bytes a record too: the place is worked out from that, and the record's own bytes are shown.
 fn told(s: Search, p: Placed, bytes: &[u8]) {
     if s.edition != 2 {
-        listed(p, p.at, p.found.kind);
+        listed(p, p.at);
         hex(b"list_bytes ", p.word, 12);
         return;
     }
-    let at = eights::distance(std::num::wrapping_sub_u64(p.at, s.spot.at)) as usize;
-    let kind = eights::kind(s.course, s.second, bytes, at);
-    listed(p, eights::place(p.file == 1, p.at), kind);
-    eights::tell(bytes, at);
+    listed(p, eights::place(p.file == 1, p.at));
+    let at = eights::distance(std::num::wrapping_sub_u64(p.at, s.spot.at));
+    eights::tell(bytes, at as usize);
 }

@@ -102,7 +102,7 @@ fn answer(lot: Lot) {
         return;
     }
     let state = lot.state;
-    let c = state.close(state.last());
+    let c = state.close(state.one.edge);
     if c.refused != 0 {
         values::refusal(1, 0, c.refused);
         return;
@@ -111,13 +111,13 @@ fn answer(lot: Lot) {
     let e = c.end;
     let one = lot.one;
     if state.edition != 2 {
-        values::end(one, reading::count_of(state.one), e, header, 1);
+        values::end(one, state.one.count, e, header);
         return;
     }
     text::value(b"rank", 1);
-    values::end(one, reading::count_of(state.one), e, header, 2);
+    values::end(one, state.one.count, e, header);
     text::value(b"rank", 2);
     let second = c.second;
     let two = lot.two;
-    values::end(two, reading::count_of(state.two), second, header, 2);
+    values::end(two, state.two.count, second, header);
 }

@@ -1,6 +1,5 @@
 // The first reading: each file's bytes, in sections of 6,000, through the judge and the tally.
 use crate::{Lot, Place, eights, values};
-use edges::Stretch;
 use header::Header;
 use judge::State;
 use tally::{Tallied, Tally};
@@ -23,20 +22,10 @@ pub(crate) fn later(lot: Lot, i: usize) -> Lot {
         return lot;
     }
     let fd = opened(i);
-    let one = lot.state.one;
-    let place = begun(i, fd, count_of(one), edge_of(one));
+    let place = begun(i, fd, lot.state.one.count, lot.state.one.edge);
     let end = sections(moved(lot, place), fd);
     libc::close(fd);
     end
-}
-
-// A rank's records so far, over resets, and the edge of the latest.
-pub(crate) fn count_of(s: Stretch) -> u64 {
-    std::num::wrapping_add_u64(s.before as u64, s.rank.count as u64)
-}
-
-pub(crate) fn edge_of(s: Stretch) -> u64 {
-    std::num::wrapping_add_u64(s.base, s.rank.edge)
 }
 
 // A descriptor, or what is below 0 where the file cannot be opened.
@@ -50,11 +39,11 @@ fn opened(i: usize) -> i32 {
     fd
 }
 
-fn begun(i: usize, fd: i32, count: u64, edge: u64) -> Place {
+fn begun(i: usize, fd: i32, count: u32, edge: u64) -> Place {
     Place {
         file: i,
         at: 0,
-        count: count,
+        count: count as u64,
         edge: edge,
         headed: false,
         more: 0 <= fd,
@@ -107,7 +96,7 @@ fn part(stopped: bool, edition: u64, h: Header) {
     if edition == 2 {
         values::edition(edition);
     }
-    values::part(h, edition);
+    values::part(h);
 }
 
 // The place behind k bytes more; what is not full is to be the file's end.
@@ -190,7 +179,7 @@ fn taken(lot: Lot, p: Place, bytes: &[u8]) -> Lot {
     let other = worse(one.refused, two.refused);
     let place = checked(p, lot.place.at, bytes, t.refused, other, state);
     let next = t.state;
-    tell(place, count_of(next.one), edge_of(next.one));
+    tell(place, next.one.count, next.one.edge);
     let header = lot.header;
     let first = one.tally;
     let second = two.tally;
@@ -206,7 +195,7 @@ fn taken(lot: Lot, p: Place, bytes: &[u8]) -> Lot {
 // The tally of what a rank sees: in edition 1 the second sees nothing.
 fn counted(t: Tally, edition: u64, second: bool, bytes: &[u8]) -> Tallied {
     if edition == 2 {
-        return t.wide_section(second, bytes);
+        return eights::counted(t, second, bytes);
     }
     if second {
         return t.section(&bytes[..0]);
@@ -236,21 +225,20 @@ fn checked(p: Place, at: u64, bytes: &[u8], refused: u64, other: u64, s: State) 
 }
 
 fn refused_at(refused: u64, bytes: &[u8], s: State) -> usize {
-    let count = (count_of(s.one) % 4294967296) as u32;
     if s.edition == 2 {
-        return eights::refused_at(refused, bytes, count);
+        return eights::refused_at(refused, bytes, s.one.count);
     }
-    tally::refused_at(refused, bytes, count)
+    tally::refused_at(refused, bytes, s.one.count)
 }
 
 // A line for a file that was read to its end.
-fn tell(p: Place, count: u64, edge: u64) {
+fn tell(p: Place, count: u32, edge: u64) {
     if p.more | p.stopped {
         return;
     }
     values::file(
         p.file as u64,
-        std::num::wrapping_sub_u64(count, p.count),
+        std::num::wrapping_sub_u64(count as u64, p.count),
         p.edge,
         edge,
         p.headed,

@@ -14,13 +14,13 @@ pub(crate) fn edition(n: u64) {
     value(b"edition", n);
 }
 
-pub(crate) fn part(h: Header, edition: u64) {
+pub(crate) fn part(h: Header) {
     value(b"bin", h.bin as u64);
     value(b"density_gb", if h.dense { 2 } else { 1 });
     value(b"width", if h.wide { 16 } else { 8 });
     value(b"period_ps", h.period.ps);
     value(b"hot", bit(h.hot));
-    clocks(chip::chip_of(h), edition);
+    clocks(chip::chip_of(h));
 }
 
 fn bit(b: bool) -> u64 {
@@ -35,10 +35,10 @@ fn count(name: &[u8], n: u32) {
 }
 
 // Each time of the part in clocks. A check grows with the square of a function's calls, so these are four.
-fn clocks(c: Chip, edition: u64) {
+fn clocks(c: Chip) {
     of_a_bank(c);
     of_all_banks(c);
-    of_the_device(c, edition);
+    of_the_device(c);
     of_power_down(c);
 }
 
@@ -60,22 +60,12 @@ fn of_all_banks(c: Chip) {
     count(b"clocks_trfc", c.trfc);
 }
 
-fn of_the_device(c: Chip, edition: u64) {
+fn of_the_device(c: Chip) {
     count(b"clocks_txs", c.txs);
     count(b"clocks_zqlong", c.zqlong);
-    first_zq(c, edition);
     count(b"clocks_zqshort", c.zqshort);
     count(b"clocks_most", c.most);
     count(b"clocks_trefi", c.trefi);
-}
-
-// The first ZQ after power-up, which edition 1 does not have.
-fn first_zq(c: Chip, edition: u64) {
-    if edition != 2 {
-        return;
-    }
-    let first = chip::chip_for(c, true);
-    count(b"clocks_zqinit", first.zqlong);
 }
 
 fn of_power_down(c: Chip) {
@@ -108,10 +98,10 @@ pub(crate) fn refusal(n: u64, at: u64, refused: u64) {
 }
 
 // The tally, the verdict, and what stands at the end.
-pub(crate) fn end(t: Tally, records: u64, c: End, header: [u8; 6], edition: u64) {
+pub(crate) fn end(t: Tally, records: u32, c: End, header: [u8; 6]) {
     let counts = t.counts;
-    rows(counts, places(edition));
-    value(b"count_all", records);
+    rows(counts);
+    count(b"count_all", records);
     let v = c.verdict;
     verdict(v);
     let banks = c.banks;
@@ -121,18 +111,10 @@ pub(crate) fn end(t: Tally, records: u64, c: End, header: [u8; 6], edition: u64)
     value(b"debt_plus_8", c.owed);
 }
 
-// How many rows the glossary has: in edition 1 the last two, of resets, are left out.
-fn places(edition: u64) -> usize {
-    if edition == 2 {
-        return 30;
-    }
-    28
-}
-
-// The first rows of the glossary, with the count of each one's kind.
-fn rows(counts: [u64; 21], end: usize) {
+// The rows of the glossary, with the count of each one's kind.
+fn rows(counts: [u64; 19]) {
     let mut i: usize = 0;
-    while i < end {
+    while i < 28 {
         let l = glossary::line_at(i, counts);
         row(l);
         i += 1;
@@ -189,28 +171,28 @@ fn verdict(v: Verdict) {
     value(b"found", v.found);
 }
 
-// One record of a list: the file that it stands in, its first byte there, and its kind.
-pub(crate) fn listed(p: Placed, at: u64, kind: usize) {
+// One record of a list: the file that it stands in, and its first byte there.
+pub(crate) fn listed(p: Placed, at: u64) {
     let f = p.found;
     value(b"list", f.reached.number);
     value(b"list_file", p.file);
     value(b"list_byte", at);
     value(b"list_edge", f.reached.edge);
-    pins(f, kind);
+    pins(f);
     let r = f.fields;
     value(b"list_bank", r.bank);
     hex(b"list_address ", r.a as u64, 4);
 }
 
-fn pins(f: Found, kind: usize) {
+fn pins(f: Found) {
     let r = f.fields;
-    let w = glossary::row_of(kind as u64);
+    let w = glossary::row_of(f.kind as u64);
     let name = w.name;
     text(b"list_command ", &name);
     value(b"list_cke_before", bit(f.level));
     value(b"list_cke", bit(r.cke));
     value(b"list_pins", r.pins);
-    value(b"list_power_down", bit(kind == ENTRY));
+    value(b"list_power_down", bit(f.kind == ENTRY));
 }
 
 fn print_banks(banks: [Shown; 8]) {

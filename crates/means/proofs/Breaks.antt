@@ -15,17 +15,17 @@ use Rattle.chip.specs.declared.Chip.{Chip}
 use Rattle.rules.specs.Past.{Past, edge, number, is, ◌∈◌, greatest}
 use Rattle.rules.specs.Banks.{start}
 use Rattle.rules.specs.Search.{asking}
-use Rattle.rules.specs.Rules.{Row, r4, r6, r7, r9, r10, r11, r12r, r12w, r13, r14, r15, r16, r17, r18, r19, r20, r21, r22, r26, r27, r29, r30, rule1, rule2, rule3, rule5, rule8, rule23, since, fourth, spacing, spaced, r21u, rule32}
+use Rattle.rules.specs.Rules.{Row, r4, r6, r7, r9, r10, r11, r12r, r12w, r13, r14, r15, r16, r17, r18, r19, r20, r21, r22, r26, r27, r29, r30, rule1, rule2, rule3, rule5, rule8, rule23, since, fourth, spacing, spaced}
 use Rattle.rules.specs.Verdict.{of_record, edge_checks}
 use Rattle.rules.proofs.Generic.{decide, broken-fine, short-fine, fine-kept}
 use Rattle.rules.proofs.Events.{never}
 use Rattle.rules.proofs.Clean.{lowest-fine, is-other, act-not-all}
 use Rattle.rules.proofs.Starts.{since-kept}
 use Rattle.means.specs.Partners.{Latest, Fourth}
-use Rattle.means.specs.Pairs.{speaks_of, may_find, Lacks, code, registers, reset, Closing-kind, own, any, Pair, other-change, in-the-way, lacking, too-soon, precharging, five-acts, no-refresh, out-of-turn}
-use Rattle.means.specs.Breaks.{Breaks, breaks1, breaks2, breaks3, breaks_row, breaks5, breaks8, breaks23, breaks32}
+use Rattle.means.specs.Pairs.{speaks_of, may_find, Lacks, code, registers, reset, Closing-kind, own, any, Pair, other-change, in-the-way, lacking, too-soon, precharging, five-acts, no-refresh}
+use Rattle.means.specs.Breaks.{Breaks, breaks1, breaks2, breaks3, breaks_row, breaks5, breaks8, breaks23}
 use Rattle.means.proofs.Partners.{latest-one, fourth-one}
-use Rattle.means.proofs.Least.{Says, says_row, says1, says2, says3, says5, says8, says23, BreaksRecord, says32}
+use Rattle.means.proofs.Least.{Says, says_row, says1, says2, says3, says5, says8, says23, BreaksRecord}
 
 module _ (C : Chip) (r : Record) (p : Past) where
   abbrev e : ℕ
@@ -42,7 +42,6 @@ module _ (C : Chip) (r : Record) (p : Past) where
       breaks5 w.kind w.looks w.event w.latest-start.event w.latest-start.kind (omega (arith, w.too_few, w.found-is, w.needed-is))
   broken-by (five-acts w) = breaks8 w.later w.event w.fourth-back (omega (arith, w.too_few, w.found-is, w.needed-is))
   broken-by (no-refresh w) = breaks23 w.later w.event w.latest-of w.woke
-  broken-by (out-of-turn y z w) = breaks32 y
 
   -- ── A broken rule's check says so ─────────────────────────────────────────────────────────
 
@@ -72,7 +71,6 @@ module _ (C : Chip) (r : Record) (p : Past) where
   row-among r19 = search (first, next) depth 30
   row-among r20 = search (first, next) depth 30
   row-among r21 = search (first, next) depth 30
-  row-among r21u = search (first, next) depth 30
   row-among r22 = search (first, next) depth 30
   row-among r26 = search (first, next) depth 40
   row-among r27 = search (first, next) depth 40
@@ -122,4 +120,3 @@ module _ (C : Chip) (r : Record) (p : Past) where
   says_so (breaks5 kind c s i y l) = said (rule5 C) (search (first, next) depth 30) (says5 C) (precharge-bad kind c s i y l)
   says_so (breaks8 y s w l) = said (rule8 C) (search (first, next) depth 30) (says8 C) (fourth-bad y s w l)
   says_so (breaks23 y s w z) = said (rule23 C) (search (first, next) depth 30) (says23 C) (woken-bad y s w z)
-  says_so (breaks32 y) = said (rule32 C) (search (first, next) depth 40) (says32 C) (λ h. broken-fine (rw y at h))

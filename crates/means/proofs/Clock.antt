@@ -1,11 +1,9 @@
 -- The awake clock and the refresh debt go edge by edge as 01 says, and what it is to be asleep.
 -- Assumes nothing.
-use Rattle.rules.proofs.Edges.{owed-rise}
-use Rattle.rules.proofs.Rising.{rise-is}
 use Prim.Native.Nat.{ℕ, ◌+◌, ◌-◌, ◌*◌, ◌/◌, ◌%◌, ◌≤◌, ◌<◌}
 use native.Mathlib.Nat.{div-add-mod', le-div_iff_mul-le, div-lt_iff_lt-mul, lt-div-mul-add, div-mul-le_self, add-mul, mul-mod_left}
 use native.Mathlib.Omega.{arith}
-use mathlib.Core.Path.{◌≡◌, refl, sym, ap, ◌∙◌, subst}
+use mathlib.Core.Path.{◌≡◌, refl, sym, ap, ◌∙◌}
 use mathlib.Core.Logic.{◌↔◌, ⊎_elim}
 use mathlib.Core.Bool.{Bool, true, false, cond, not, ◌&&◌, ◌||◌}
 use mathlib.Core.List.{[], ◌∷◌}
@@ -13,7 +11,7 @@ use lib.Dec.{eqb, leb}
 use borrow.Author.Tests.{eqb-true, eqb-false, leb-true, leb-false, eq-eqb, ne_eqb}
 use Rattle.records.specs.declared.Record.{Record}
 use Rattle.records.specs.declared.Command.TheVariants.{Ref, Sre}
-use Rattle.rules.specs.Past.{Past, edge, number, changes, asleep, is, latest, up_to, ◌∈◌, here, there, rise}
+use Rattle.rules.specs.Past.{Past, edge, number, changes, asleep, is, latest, up_to, ◌∈◌, here, there}
 use Rattle.rules.specs.Deadlines.{awake_to, awake_at, owed_to, owed_at, since_ref}
 use Rattle.rules.specs.Verdict.{Apart}
 use Rattle.rules.proofs.Generic.{decide, edge-le}
@@ -108,7 +106,7 @@ next (r ∷ p) t a = ⊎_elim
   where
     here : edge (r ∷ p) ≡ t + 1 → Next (r ∷ p) t
     here e =
-        let first : 1 ≤ r.step = ⊎_elim (λ l. l) (λ w. absurd (omega (arith, e, ap edge (rise-is w)))) a.0 in
+        let first : 1 ≤ r.step = a.0 in
         stands r p (up-to-all (t + 1) (r ∷ p) (omega arith)) (up-to-skip t r p (omega arith) ∙ up-to-all t p (omega arith)) e
         (rw (eq-eqb (edge (r ∷ p)) (t + 1) e, none-later p (t + 1) (omega arith)) (alone (is Ref (r ∷ p))))
 
@@ -148,15 +146,11 @@ awake-now s = go (asleep s)
     go true = omega arith
     go false = omega arith
 
--- nothing is an event of the empty past
-pub none_in {ℓ} : {A : Type ℓ} {s : Past} → s ∈ [] → A
-none_in = elim [ ]
-
 -- up to the edge of an event of q there is that event, and what was before it
 up-to-own : {s q : Past} → Apart q → s ∈ q → up_to (edge s) q ≡ s
 up-to-own a (here {r = r} {p = p}) = up-to-all (edge (r ∷ p)) (r ∷ p) (omega arith)
 up-to-own {s = s} a (there {r = r} {p = p} i) =
-    let first : 1 ≤ r.step = ⊎_elim (λ l. l) (λ w. none_in (subst (λ x. s ∈ x) w.1 i)) a.0 in up-to-skip (edge s) r p (omega (arith, edge-le i)) ∙ up-to-own a.1 i
+    let first : 1 ≤ r.step = a.0 in up-to-skip (edge s) r p (omega (arith, edge-le i)) ∙ up-to-own a.1 i
 
 up-to-in : (t : ℕ) (q : Past) {s : Past} → s ∈ up_to t q → s ∈ q
 up-to-in t [] i = i
@@ -166,15 +160,10 @@ up-to-in t (r ∷ q) {s} i = go (leb (edge (r ∷ q)) t) i (up-to-in t q)
     go true j older = j
     go false j older = there (older j)
 
--- at edge 0 none has passed
-awake-zero : (q : Past) → Apart q → awake_at (up_to 0 q) 0 ≡ 0
-unfolding awake_at awake_to asleep
-awake-zero q a = ⊎_elim (λ e. rw e) (λ e. rw e) (up_to_zero q a)
-
 awake-event : (q : Past) → Apart q → (k : Past → Bool) (t : ℕ) → awake q (edge (latest k (up_to t q))) ≡ awake_to (latest k (up_to t q))
 unfolding awake_to
 awake-event q a k t = ⊎_elim
-    (λ (e : latest k (up_to t q) ≡ []). rw e (awake-zero q a))
+    (λ (e : latest k (up_to t q) ≡ []). rw (e, up_to_zero q a) (awake-now []))
     (λ w. ap (λ p. awake_at p (edge (latest k (up_to t q)))) (up-to-own a (up-to-in t q w.0)) ∙ awake-now (latest k (up_to t q)))
     (latest-is k (up_to t q))
 
@@ -213,13 +202,7 @@ module _ {T : ℕ} (h : 0 < T) (q : Past) (apart : Apart q) where
   -- "Refresh debt starts at 0, rises by 1 .."; "The awake clock counts edges from 1, but not .."
   pub debt-by-edge : By-edge T q
   unfolding owed_at owed_to awake_at awake_to asleep
-  debt-by-edge = record { clock-starts = awake-zero q apart; clock = clock-on; debt-starts = owed-zero; debt = debt-on; since = since-on }
-    where
-      owed-zero : owed T q 0 ≡ 8
-      owed-zero = ⊎_elim
-          (λ (e : up_to 0 q ≡ []). rw e (omega arith))
-          (λ (e : up_to 0 q ≡ rise ∷ []). rw e (omega (arith, owed-rise T)))
-          (up_to_zero q apart)
+  debt-by-edge = record { clock-starts = rw (up_to_zero q apart); clock = clock-on; debt-starts = rw (up_to_zero q apart) (omega arith); debt = debt-on; since = since-on }
 
 -- ── Asleep ──────────────────────────────────────────────────────────────────────────────────
 

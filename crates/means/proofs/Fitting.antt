@@ -1,7 +1,5 @@
 -- Each number of a verdict on a recording that is not refused fits its bits.
 -- Assumes nothing.
-use Rattle.header.specs.Counts.{zq_init}
-use Rattle.rules.specs.Order.{initial}
 use Prim.Native.Nat.{ℕ, ◌+◌, ◌-◌, ◌*◌, ◌≤◌}
 use native.Mathlib.Nat.{max-le, mul-le-mul_left}
 use native.Mathlib.Omega.{arith}
@@ -27,14 +25,14 @@ use Rattle.records.specs.declared.Command.TheVariants.{Ref, Wr, Rd}
 use Rattle.rules.specs.Past.{Past, edge, number, is, bank_of, address_of, a10_of, latest, up_to}
 use Rattle.rules.specs.Registers.{regs, rl, wl, h, wr}
 use Rattle.rules.specs.Banks.{act_on, is_idle, status}
-use Rattle.rules.specs.Rules.{Row, r4, r6, r7, r9, r10, r11, r12r, r12w, r13, r14, r15, r16, r17, r18, r19, r20, r21, r22, r26, r27, r29, r30, to_entry, spacing, r21u}
+use Rattle.rules.specs.Rules.{Row, r4, r6, r7, r9, r10, r11, r12r, r12w, r13, r14, r15, r16, r17, r18, r19, r20, r21, r22, r26, r27, r29, r30, to_entry, spacing}
 use Rattle.rules.specs.Verdict.{Outcome, clean, stop, verdict_to, shown, shown_verdict, Apart}
 use Rattle.rules.proofs.Generic.{decide}
 use Rattle.rules.proofs.Events.{number-le}
 use Rattle.rules.proofs.Status.{latest-number}
 use Rattle.rules.proofs.Facts.{burst-bounds}
 use Rattle.means.specs.Partners.{Fourth}
-use Rattle.means.specs.Pairs.{Lacks, code, registers, reset, Pair, other-change, in-the-way, lacking, too-soon, precharging, five-acts, no-refresh, out-of-turn}
+use Rattle.means.specs.Pairs.{Lacks, code, registers, reset, Pair, other-change, in-the-way, lacking, too-soon, precharging, five-acts, no-refresh}
 use Rattle.means.specs.Means.{How, record-did, limit-passed, debt-grew, stay-passed, gap-passed}
 use Rattle.means.proofs.Means.{broken-means, never-fine}
 
@@ -76,34 +74,8 @@ latencies g a =
 
 -- ── Clocks ──────────────────────────────────────────────────────────────────────────────────
 
--- the rule of a spacing
-pub name-bounds : (C : Chip) (x : Row) → (1 ≤ (spacing C x).name) × ((spacing C x).name ≤ 31)
-name-bounds C r4 = (omega arith, omega arith)
-name-bounds C r6 = (omega arith, omega arith)
-name-bounds C r7 = (omega arith, omega arith)
-name-bounds C r9 = (omega arith, omega arith)
-name-bounds C r10 = (omega arith, omega arith)
-name-bounds C r11 = (omega arith, omega arith)
-name-bounds C r12r = (omega arith, omega arith)
-name-bounds C r12w = (omega arith, omega arith)
-name-bounds C r13 = (omega arith, omega arith)
-name-bounds C r14 = (omega arith, omega arith)
-name-bounds C r15 = (omega arith, omega arith)
-name-bounds C r16 = (omega arith, omega arith)
-name-bounds C r17 = (omega arith, omega arith)
-name-bounds C r18 = (omega arith, omega arith)
-name-bounds C r19 = (omega arith, omega arith)
-name-bounds C r20 = (omega arith, omega arith)
-name-bounds C r21 = (omega arith, omega arith)
-name-bounds C r21u = (omega arith, omega arith)
-name-bounds C r22 = (omega arith, omega arith)
-name-bounds C r26 = (omega arith, omega arith)
-name-bounds C r27 = (omega arith, omega arith)
-name-bounds C r29 = (omega arith, omega arith)
-name-bounds C r30 = (omega arith, omega arith)
-
 -- no clock count of a part is above 320,000
-pub record Low (C : Chip) : Type 0 where
+record Low (C : Chip) : Type 0 where
   rcd : C.trcd ≤ 320000
   rp : C.trp ≤ 320000
   rc : C.trc ≤ 320000
@@ -119,13 +91,12 @@ pub record Low (C : Chip) : Type 0 where
   xs : C.txs ≤ 320000
   long : C.zqlong ≤ 320000
   short : C.zqshort ≤ 320000
-  init : (zq_init C.header).clocks ≤ 640000
   most : C.most ≤ 320000
   xp : C.txp ≤ 320000
   xpdll : C.txpdll ≤ 320000
   nine : C.nine ≤ 320000
 
-pub low : (h : Header) → 1070 ≤ h.period.ps → Low (chip_of h)
+low : (h : Header) → 1070 ≤ h.period.ps → Low (chip_of h)
 unfolding chip_of
 low h least =
     let b = bounds h in
@@ -152,7 +123,6 @@ low h least =
       xs = omega (arith, b.xs);
       long = omega (arith, b.long);
       short = omega (arith, b.short);
-      init = omega (arith, b.init);
       most = omega (arith, most, limit, mul-le-mul_left (down (cond h.hot 35100000 70000000) p) least);
       xp = omega (arith, b.xp);
       xpdll = omega (arith, b.xpdll);
@@ -160,17 +130,17 @@ low h least =
     }
 
 module _ (C : Chip) (L : Low C) where
-  entry-most : (s : Past) → to_entry C s ≤ 640100
+  entry-most : (s : Past) → to_entry C s ≤ 320100
   unfolding to_entry
   entry-most s =
       let l = latencies (regs s) 0 in
-      choice (is Rd s) (rl s + 5) _ 640100 (omega (arith, l.al-low, l.cl-low))
-      (choice (is Wr s) _ C.tmod 640100
-      (choice (a10_of s) (wl s + h s + wr s + 1) (wl s + h s + C.twr) 640100
+      choice (is Rd s) (rl s + 5) _ 320100 (omega (arith, l.al-low, l.cl-low))
+      (choice (is Wr s) _ C.tmod 320100
+      (choice (a10_of s) (wl s + h s + wr s + 1) (wl s + h s + C.twr) 320100
       (omega (arith, l.al-low, l.cwl-low, l.h-low, l.wr-low)) (omega (arith, L.wr, l.al-low, l.cwl-low, l.h-low)))
       (omega (arith, L.wait)))
 
-  need-most : (x : Row) (s : Past) → (spacing C x).need s ≤ 640100
+  need-most : (x : Row) (s : Past) → (spacing C x).need s ≤ 320100
   need-most r4 s = max-le (omega (arith, L.rcd)) (omega arith)
   need-most r6 s = omega (arith, L.rc)
   need-most r7 s = omega (arith, L.rrd)
@@ -184,29 +154,50 @@ module _ (C : Chip) (L : Low C) where
   need-most r15 s = omega (arith, L.rfc)
   need-most r16 s = omega arith
   need-most r17 s = omega (arith, L.wait)
-  need-most r18 s =
-      choice (initial s) (zq_init C.header).clocks _ 640100 (omega (arith, L.init))
-      (choice (a10_of s) C.zqlong C.zqshort 640100 (omega (arith, L.long)) (omega (arith, L.short)))
+  need-most r18 s = choice (a10_of s) C.zqlong C.zqshort 320100 (omega (arith, L.long)) (omega (arith, L.short))
   need-most r19 s = let l = latencies (regs s) (address_of s) in omega (arith, l.al-low, l.cl-low, l.b-low)
   need-most r20 s = omega arith
   need-most r21 s = omega (arith, L.xs)
-  need-most r21u s = omega (arith, L.xs)
   need-most r22 s = omega (arith, L.cke)
   need-most r26 s = entry-most s
   need-most r27 s = omega (arith, L.cke)
   need-most r29 s = omega (arith, L.xp)
   need-most r30 s = omega (arith, L.xpdll)
 
+  name-most : (x : Row) → (spacing C x).name ≤ 31
+  name-most r4 = omega arith
+  name-most r6 = omega arith
+  name-most r7 = omega arith
+  name-most r9 = omega arith
+  name-most r10 = omega arith
+  name-most r11 = omega arith
+  name-most r12r = omega arith
+  name-most r12w = omega arith
+  name-most r13 = omega arith
+  name-most r14 = omega arith
+  name-most r15 = omega arith
+  name-most r16 = omega arith
+  name-most r17 = omega arith
+  name-most r18 = omega arith
+  name-most r19 = omega arith
+  name-most r20 = omega arith
+  name-most r21 = omega arith
+  name-most r22 = omega arith
+  name-most r26 = omega arith
+  name-most r27 = omega arith
+  name-most r29 = omega arith
+  name-most r30 = omega arith
+
   -- ── Pairs ─────────────────────────────────────────────────────────────────────────────────
 
   -- what a broken rule tells, of a recording of so many records
-  pub record Told (records rule partner needed found : ℕ) : Type 0 where
-    pub by-rule : rule ≤ 32
-    pub by-partner : partner ≤ records
-    pub by-needed : needed ≤ 640100
-    pub by-found : found ≤ 640100
+  record Told (records rule partner needed found : ℕ) : Type 0 where
+    by-rule : rule ≤ 31
+    by-partner : partner ≤ records
+    by-needed : needed ≤ 320100
+    by-found : found ≤ 320100
 
-  told : {n k x m f : ℕ} → k ≤ 32 → x ≤ n → m ≤ 640100 → f ≤ 640100 → Told n k x m f
+  told : {n k x m f : ℕ} → k ≤ 31 → x ≤ n → m ≤ 320100 → f ≤ 320100 → Told n k x m f
   told a b c d = record { by-rule = a; by-partner = b; by-needed = c; by-found = d }
 
   tail-number : (p : Past) → number (tail p) ≤ number p
@@ -233,14 +224,13 @@ module _ (C : Chip) (L : Low C) where
   pair-told (lacking l n c) = told (omega arith) (omega arith) (omega (arith, c)) (omega (arith, lack-most l))
   pair-told (too-soon x w) =
       let m = need-most x w.event in
-      told (omega (arith, (name-bounds C x).1)) (omega (arith, w.partner-is, number-le w.within)) (omega (arith, w.needed-is, m)) (omega (arith, w.too_few, w.needed-is, m))
+      told (omega (arith, name-most x)) (omega (arith, w.partner-is, number-le w.within)) (omega (arith, w.needed-is, m)) (omega (arith, w.too_few, w.needed-is, m))
   pair-told (precharging w) =
       told (omega arith) (omega (arith, w.partner-is, number-le w.latest-start.event)) (omega (arith, w.needed-is, L.rp)) (omega (arith, w.too_few, w.needed-is, L.rp))
   pair-told {p = p} (five-acts w) =
       told (omega arith) (omega (arith, w.partner-is, fourth-number p w.event w.fourth-back)) (omega (arith, w.needed-is, L.faw)) (omega (arith, w.too_few, w.needed-is, L.faw))
   pair-told (no-refresh w) =
       told (omega arith) (omega (arith, w.partner-is, number-le w.latest-of.event)) (omega (arith, w.clocks.0)) (omega (arith, w.clocks.1))
-  pair-told (out-of-turn y n c) = told (omega arith) (omega arith) (omega (arith, c.0)) (omega (arith, c.1))
 
   -- ── The verdict ───────────────────────────────────────────────────────────────────────────
 
@@ -251,7 +241,7 @@ module _ (C : Chip) (L : Low C) where
       (λ (z : leb (edge (r ∷ q)) t ≡ false). rw z (omega (arith, up-to-number t q)))
       (decide (leb (edge (r ∷ q)) t))
 
-  pub how-told : {q : Past} {t n x m f k : ℕ} → How C q t n x m f k → (n ≤ number q) × Told (number q) k x m f
+  how-told : {q : Past} {t n x m f k : ℕ} → How C q t n x m f k → (n ≤ number q) × Told (number q) k x m f
   how-told (record-did i e l w) =
       let v = pair-told w in
       let of = number-le i in

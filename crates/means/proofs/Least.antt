@@ -8,11 +8,11 @@ use Rattle.answers.specs.declared.Break.TheVariants.{Broken}
 use Rattle.records.specs.declared.Record.{Record}
 use Rattle.chip.specs.declared.Chip.{Chip}
 use Rattle.rules.specs.Past.{Past}
-use Rattle.rules.specs.Rules.{Row, rule1, rule2, rule3, rule5, rule8, rule23, spacing, spaced, rule32}
+use Rattle.rules.specs.Rules.{Row, rule1, rule2, rule3, rule5, rule8, rule23, spacing, spaced}
 use Rattle.rules.specs.Verdict.{of_record, edge_checks}
-use Rattle.means.specs.Pairs.{Pair, other-change, in-the-way, lacking, too-soon, precharging, five-acts, no-refresh, out-of-turn}
+use Rattle.means.specs.Pairs.{Pair, other-change, in-the-way, lacking, too-soon, precharging, five-acts, no-refresh}
 use Rattle.means.proofs.Partners.{row-pair}
-use Rattle.means.proofs.Pairs.{pair1, pair2, pair3, pair5, pair8, pair23, pair32}
+use Rattle.means.proofs.Pairs.{pair1, pair2, pair3, pair5, pair8, pair23}
 
 module _ (C : Chip) where
   -- the check g speaks of rule k alone
@@ -36,9 +36,6 @@ module _ (C : Chip) where
 
   pub says23 : Says 23 (rule23 C)
   says23 r p j n m f h = let w = pair23 C r p j n m f h in (w.0, no-refresh w.1)
-
-  pub says32 : Says 32 (rule32 C)
-  says32 r p j n m f h = let w = pair32 C r p j n m f h in (w.0, out-of-turn w.1 w.2 w.3)
 
   pub says_row : (x : Row) → Says (spacing C x).name (spaced C x)
   says_row x r p j n m f h = let w = row-pair (spacing C x) r p j n m f h in (w.0, too-soon x w.1)

@@ -5,8 +5,6 @@ pub mod Breaks
 pub mod Passing
 pub mod Order
 pub mod Means
-pub mod Lines
-pub mod LineFitting
 pub mod Fourth
 pub mod Fifth
 pub mod Clock

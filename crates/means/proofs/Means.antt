@@ -1,11 +1,10 @@
 -- What a verdict means, all of it. Clean: no rule is broken at any edge up to the end. Broken: the earliest edge at which a rule is
 -- broken, the least rule broken there, its record, and the pair that 01 names for the rule.
 -- Assumes nothing.
-use Rattle.means.proofs.Clock.{none_in}
 use Prim.Native.Nat.{ℕ, ◌-◌, ◌≤◌, ◌<◌}
 use native.Mathlib.Omega.{arith}
-use mathlib.Core.Path.{◌≡◌, refl, sym, ap, ◌∙◌, subst}
-use mathlib.Core.Logic.{◌↔◌, ⊎_elim}
+use mathlib.Core.Path.{◌≡◌, refl, sym, ap, ◌∙◌}
+use mathlib.Core.Logic.{◌↔◌}
 use mathlib.Core.List.{◌∷◌}
 use borrow.Author.Tests.{eq-eqb, ne_eqb}
 use Rattle.laws.specs.Among.{Among, first, next}
@@ -44,7 +43,6 @@ module _ (C : Chip) (q : Past) (apart : Apart q) where
       → record_says g p (edge (r ∷ s)) ≡ told (edge (r ∷ s)) (number (r ∷ s)) (g r s)
   record-says g a (here {r = r} {p = p}) = rw (eq-eqb (edge (r ∷ p)) (edge (r ∷ p)) refl)
   record-says g {s = s} {r = r} a (there {r = last} {p = p} i) =
-      let far : 1 ≤ last.step = ⊎_elim (λ l. l) (λ w. none_in (subst (λ x. r ∷ s ∈ x) w.1 i)) a.0 in
       rw (ne_eqb (edge (last ∷ p)) (edge (r ∷ s)) (λ e. omega (arith, edge-le i))) (record-says g a.1 i)
 
   by-the-deadline : {t k : ℕ} (g : Past → ℕ → Break) → Among (deadline g) (edge_checks C)
@@ -87,7 +85,7 @@ module _ (C : Chip) (q : Past) (apart : Apart q) where
   says_there {t} (by-gap x) =
       by-the-deadline (rule31 C) (search (first, next) depth 40) (λ j a b c h. (pair31 C q t j a b c h).0) (parted-bad C q t x)
 
-  pub none-broken : (t j : ℕ) → broken_at C q t ≡ clean → BreaksAt C q t j → ⊥
+  none-broken : (t j : ℕ) → broken_at C q t ≡ clean → BreaksAt C q t j → ⊥
   none-broken t j h b = let w = says_there b in stop-clean (sym w.says ∙ broken-clean C w.check q t h w.of)
 
   -- ── The verdict ───────────────────────────────────────────────────────────────────────────
@@ -100,12 +98,12 @@ module _ (C : Chip) (q : Past) (apart : Apart q) where
       let z : verdict_to C q (t - 1) ≡ clean = skip-to C q 0 (t - 1) (omega arith) (λ s a c. earliest C q u t n b h s a (omega arith)) refl in
       (l, ap (λ v. keep v (broken_at C q t)) (sym z) ∙ sym (verdict-next C q t l) ∙ own)
 
-  pub least-how : (t u n k x m f : ℕ) → broken_at C q t ≡ stop u n (Broken k x m f) → How C q t n x m f k × ((j : ℕ) → BreaksAt C q t j → k ≤ j)
+  least-how : (t u n k x m f : ℕ) → broken_at C q t ≡ stop u n (Broken k x m f) → How C q t n x m f k × ((j : ℕ) → BreaksAt C q t j → k ≤ j)
   least-how t u n k x m f h =
       let w = broken-least C q t h in
       (w.0, λ j b. let v = says_there b in w.1 v.check t v.num j v.partner v.needed v.found v.of v.says)
 
-  pub breaks-how : {t n k x m f : ℕ} → How C q t n x m f k → BreaksAt C q t k
+  breaks-how : {t n k x m f : ℕ} → How C q t n x m f k → BreaksAt C q t k
   breaks-how (record-did {r = r} {p = p} i e l w) = by-record i e (broken-by C r p w)
   breaks-how (limit-passed e w) = by-limit w.bank w.below w.passed
   breaks-how (debt-grew e w) = by-debt w.owes
@@ -130,7 +128,7 @@ module _ (C : Chip) (q : Past) (apart : Apart q) where
   pub never-fine : (end t n : ℕ) → verdict_to C q end ≡ stop t n Fine → ⊥
   never-fine end t n h = broken-never C q t t n (broken-there end t n Fine h).1
 
-  pub clean-edge : (t : ℕ) → ((j : ℕ) → BreaksAt C q t j → ⊥) → broken_at C q t ≡ clean
+  clean-edge : (t : ℕ) → ((j : ℕ) → BreaksAt C q t j → ⊥) → broken_at C q t ≡ clean
   clean-edge t h = go (broken_at C q t) refl
     where
       go : (v : Outcome) → broken_at C q t ≡ v → v ≡ clean

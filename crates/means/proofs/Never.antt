@@ -15,9 +15,9 @@ use Rattle.units.proofs.Rounding.{down-greatest}
 use Rattle.header.specs.declared.Header.{Header}
 use Rattle.chip.specs.declared.Chip.{Chip}
 use Rattle.chip.specs.Chip.{chip_of}
-use Rattle.rules.specs.Past.{Past, edge, number, turns, asleep, is, latest, up_to}
+use Rattle.rules.specs.Past.{Past, edge, number, changes, asleep, is, latest, up_to}
 use Rattle.rules.specs.Banks.{act_on}
-use Rattle.rules.specs.Rules.{Row, r4, r6, r7, r9, r10, r11, r12r, r12w, r13, r14, r15, r16, r17, r18, r19, r20, r21, r22, r26, r27, r29, r30, spacing, r21u}
+use Rattle.rules.specs.Rules.{Row, r4, r6, r7, r9, r10, r11, r12r, r12w, r13, r14, r15, r16, r17, r18, r19, r20, r21, r22, r26, r27, r29, r30, spacing}
 use Rattle.rules.specs.Deadlines.{awake_to, awake_at, since_ref}
 use Rattle.rules.specs.Down.{turned, down}
 use Rattle.rules.specs.Verdict.{clean, stop, broken_at, verdict_to, Apart}
@@ -29,7 +29,7 @@ use Rattle.rules.proofs.Refreshed.{Unrefreshed, down-unrefreshed, busy-unrefresh
 use Rattle.rules.proofs.Sense.{clean-iff, earliest}
 use Rattle.rules.proofs.UpTo.{up-to-edge, apart-up-to}
 use Rattle.rules.proofs.Edges.{clean-up-to, small-owed-at, near-ref-at}
-use Rattle.means.specs.Pairs.{Pair, other-change, in-the-way, lacking, too-soon, precharging, five-acts, no-refresh, out-of-turn}
+use Rattle.means.specs.Pairs.{Pair, other-change, in-the-way, lacking, too-soon, precharging, five-acts, no-refresh}
 use Rattle.means.specs.Unseen.{Unseen}
 use Rattle.means.specs.Means.{How, record-did, limit-passed, debt-grew, stay-passed, gap-passed}
 use Rattle.means.proofs.Partners.{latest-one}
@@ -59,7 +59,6 @@ module _ (C : Chip) where
   row-no r19 = refl
   row-no r20 = refl
   row-no r21 = refl
-  row-no r21u = refl
   row-no r22 = refl
   row-no r26 = refl
   row-no r27 = refl
@@ -74,7 +73,6 @@ module _ (C : Chip) where
   pair-no (precharging w) = refl
   pair-no (five-acts w) = refl
   pair-no (no-refresh w) = refl
-  pair-no (out-of-turn y n c) = refl
 
 -- the awake clock was one less at the edge before, if that
 awake-before : (p : Past) (t : ℕ) → edge p ≤ t - 1 → awake_at p t ≤ awake_at p (t - 1) + 1
@@ -122,7 +120,7 @@ module _ (C : Chip) (q : Past) (apart : Apart q) (end t n k x m f : ℕ) (broken
       go (debt-grew g w) h = omega arith
       go (gap-passed g w) h = omega arith
       go (stay-passed g w) h =
-          let s = latest-one turns p w.event w.latest-of in
+          let s = latest-one changes p w.event w.latest-of in
           let d : down p ≡ true = ap (is Pde) s ∙ w.entered in
           too_far (turned p) C.nine (down-unrefreshed C p (apart-up-to (t - 1) q apart) tidy d) (ap (λ v. edge v + C.nine + 1) s ∙ w.passed) (omega arith)
 

@@ -14,13 +14,13 @@ use Rattle.answers.specs.declared.Break.TheVariants.{Fine, Broken}
 use Rattle.records.specs.declared.Record.{Record}
 use Rattle.chip.specs.declared.Chip.{Chip}
 use Rattle.rules.specs.Past.{Past, edge, number, ◌∈◌, here, there}
-use Rattle.rules.specs.Rules.{Row, r4, r6, r7, r9, r10, r11, r12r, r12w, r13, r14, r15, r16, r17, r18, r19, r20, r21, r22, r26, r27, r29, r30, spacing, spaced, r21u}
+use Rattle.rules.specs.Rules.{Row, r4, r6, r7, r9, r10, r11, r12r, r12w, r13, r14, r15, r16, r17, r18, r19, r20, r21, r22, r26, r27, r29, r30, spacing, spaced}
 use Rattle.rules.specs.Deadlines.{rule24, rule25, rule28, rule31}
 use Rattle.rules.specs.Verdict.{Outcome, clean, stop, keep, told, Check, of_record, deadline, record_says, check_says, first_of, edge_checks, broken_at}
 use Rattle.rules.proofs.Generic.{decide, broken-fine}
 use Rattle.rules.proofs.Numbered.{stop-clean, keep-clean}
 use Rattle.means.specs.Means.{How, record-did, limit-passed, debt-grew, stay-passed, gap-passed}
-use Rattle.means.proofs.Least.{Says, says1, says2, says3, says5, says8, says23, says_row, says32}
+use Rattle.means.proofs.Least.{Says, says1, says2, says3, says5, says8, says23, says_row}
 use Rattle.means.proofs.Passing.{pair24, pair25, pair28, pair31}
 
 -- ── What one check says ─────────────────────────────────────────────────────────────────────
@@ -149,7 +149,6 @@ module _ (C : Chip) (q : Past) where
       (also 19 refl (row r19)
       (also 20 refl (row r20)
       (also 21 refl (row r21)
-      (also 21 refl (row r21u)
       (also 22 refl (row r22)
       (also 23 refl (of-record (says23 C))
       (also 24 refl of-limit
@@ -160,8 +159,7 @@ module _ (C : Chip) (q : Past) where
       (also 29 refl (row r29)
       (also 30 refl (row r30)
       (also 31 refl of-gap
-      (also 32 refl (of-record (says32 C))
-      none)))))))))))))))))))))))))))))))))
+      none)))))))))))))))))))))))))))))))
 
   module _ (t : ℕ) where
     -- no check of the list breaks a rule below k

@@ -15,14 +15,14 @@ use Rattle.records.specs.declared.Command.TheVariants.{Mrs, Ref, Act, Rd, Sre, S
 use Rattle.chip.specs.declared.Chip.{Chip}
 use Rattle.rules.specs.Past.{Past, edge, number, command, is, bank_of, latest, back, greatest}
 use Rattle.rules.specs.Banks.{closes, shuts, act_num, start, status}
-use Rattle.rules.specs.Rules.{barred, demand, rule1, rule2, rule3, rule5, rule8, rule23, since, fourth, rule32}
+use Rattle.rules.specs.Rules.{barred, demand, rule1, rule2, rule3, rule5, rule8, rule23, since, fourth}
 use Rattle.rules.proofs.Generic.{decide}
 use Rattle.rules.proofs.Events.{never, greatest-is}
 use Rattle.rules.proofs.Starts.{start_none}
 use Rattle.rules.proofs.Sense.{partner-is}
 use Rattle.rules.proofs.Clean.{wants_all}
 use Rattle.means.specs.Partners.{Fourth}
-use Rattle.means.specs.Pairs.{None, speaks_of, may_find, Way-pair, Lacks, code, registers, reset, Closing-kind, own, any, Start-pair, Fourth-pair, Woken-pair, out_of_turn}
+use Rattle.means.specs.Pairs.{None, speaks_of, may_find, Way-pair, Lacks, code, registers, reset, Closing-kind, own, any, Start-pair, Fourth-pair, Woken-pair}
 use Rattle.means.proofs.Partners.{fine-broken, latest-sense, Lowest, lowest-sense, act-number, fourth-is}
 
 module _ (C : Chip) (r : Record) (p : Past) where
@@ -173,9 +173,3 @@ module _ (C : Chip) (r : Record) (p : Past) where
       )
       go true a false b g = fine-broken g
       go false a y b g = fine-broken g
-
-  pub pair32 : (k n m f : ℕ) → rule32 C r p ≡ Broken k n m f → (k ≡ 32) × (out_of_turn r p ≡ true) × (n ≡ 0) × None m f
-  pair32 k n m f h = ⊎_elim
-      (λ (y : out_of_turn r p ≡ true). let g : Broken 32 0 0 0 ≡ Broken k n m f = rw y at h in (cc, y, cc, (cc, cc)))
-      (λ (z : out_of_turn r p ≡ false). fine-broken (rw z at h))
-      (decide (out_of_turn r p))

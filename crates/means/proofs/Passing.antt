@@ -11,7 +11,7 @@ use Rattle.answers.specs.declared.Bank.{Bank}
 use Rattle.answers.specs.declared.Break.TheVariants.{Fine, Broken}
 use Rattle.records.specs.declared.Command.TheVariants.{Ref, Pde}
 use Rattle.chip.specs.declared.Chip.{Chip}
-use Rattle.rules.specs.Past.{Past, edge, number, turns, is, latest, up_to}
+use Rattle.rules.specs.Past.{Past, edge, number, changes, is, latest, up_to}
 use Rattle.rules.specs.Banks.{act_on, is_idle, act_num, status}
 use Rattle.rules.specs.Deadlines.{over, late, stayed, rule24, rule25, rule28, rule31, owed_at, since_ref}
 use Rattle.rules.specs.Down.{turned}
@@ -98,7 +98,7 @@ module _ (C : Chip) (q : Past) (t : ℕ) where
         cc,
         record {
           event = s;
-          latest-of = latest-sense turns (up_to (t - 1) q) (some-entry s a);
+          latest-of = latest-sense changes (up_to (t - 1) q) (some-entry s a);
           entered = a;
           passed = eqb-true _ _ b;
           partner-is = cc;
@@ -111,7 +111,7 @@ module _ (C : Chip) (q : Past) (t : ℕ) where
 
   pub stay-bad : Stayed C q t → rule28 C q t ≡ Fine → ⊥
   stay-bad w h =
-      let e = latest-one turns (up_to (t - 1) q) w.0 w.1 in
+      let e = latest-one changes (up_to (t - 1) q) w.0 w.1 in
       let g : stayed C.nine w.0 t ≡ Fine = ap (λ s. stayed C.nine s t) (sym e) ∙ h in
       broken-fine (rw (w.2, eq-eqb (edge w.0 + C.nine + 1) t w.3) at g)
 

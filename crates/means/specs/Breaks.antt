@@ -8,7 +8,7 @@ use Rattle.rules.specs.Past.{Past, edge, is, ◌∈◌}
 use Rattle.rules.specs.Banks.{start}
 use Rattle.rules.specs.Rules.{Row, spacing}
 use Rattle.means.specs.Partners.{Latest, Fourth}
-use Rattle.means.specs.Pairs.{speaks_of, may_find, Lacks, Closing-kind, out_of_turn}
+use Rattle.means.specs.Pairs.{speaks_of, may_find, Lacks, Closing-kind}
 use Rattle.means.specs.Passing.{Late, Owing, Stayed, Parted}
 
 module _ (C : Chip) (r : Record) (p : Past) where
@@ -26,8 +26,6 @@ module _ (C : Chip) (r : Record) (p : Past) where
     breaks8 : is Act (r ∷ p) ≡ true → (s : Past) → Fourth p s → edge (r ∷ p) - edge s < C.tfaw → Breaks 8
     -- an SRX after which no REF came
     breaks23 : is Sre (r ∷ p) ≡ true → (s : Past) → Latest (λ t. is Srx t || is Ref t) p s → is Srx s ≡ true → Breaks 23
-    -- a command out of turn after power-up
-    breaks32 : out_of_turn r p ≡ true → Breaks 32
 
 module _ (C : Chip) (q : Past) where
   -- rule k is broken at edge t of the recording q

@@ -4,6 +4,5 @@ pub mod Pairs
 pub mod Passing
 pub mod Breaks
 pub mod Means
-pub mod Lines
 pub mod Clock
 pub mod Unseen

@@ -1,13 +1,12 @@
 -- Whom a record that breaks a rule names, and with which clocks: 01, "Partner", rule by rule.
 -- Assumes nothing.
-use Rattle.rules.specs.Order.{place, in_turn}
-use Rattle.std.specs.Prelude.{ℕ, ◌-◌, ◌<◌, ◌≡◌, Bool, true, false, cond, ◌&&◌, ◌||◌, not, ◌∷◌}
+use Rattle.std.specs.Prelude.{ℕ, ◌-◌, ◌<◌, ◌≡◌, Bool, true, false, cond, ◌&&◌, ◌||◌, ◌∷◌}
 use Rattle.records.specs.declared.Record.{Record}
 use Rattle.records.specs.declared.Command.TheVariants.{Mrs, Ref, Act, Rd, Zq, Sre, Srx, Bad}
 use Rattle.records.specs.Command.{a10}
 use Rattle.registers.specs.Allowed.{bad_bit, allowed}
 use Rattle.chip.specs.declared.Chip.{Chip}
-use Rattle.rules.specs.Past.{Past, edge, number, command, is, bank_of, on, latest, has, Greatest, any_command}
+use Rattle.rules.specs.Past.{Past, edge, number, command, is, bank_of, on, latest, has, Greatest}
 use Rattle.rules.specs.Registers.{dll_reset, mr}
 use Rattle.rules.specs.Banks.{act_on, closes, shuts, is_idle, start, status}
 use Rattle.rules.specs.Rules.{may, concerns, Row, spacing}
@@ -16,10 +15,6 @@ use Rattle.means.specs.Partners.{Latest, Fourth, Row-pair}
 -- "Rules 1, 2, 3, 23: needed and found 0"; Q-5 amends it for rule 3 on an MRS
 abbrev pub None : (needed found : ℕ) → Type 0
 None m f = (m ≡ 0) × (f ≡ 0)
-
--- a command that is not the next of the order after power-up
-abbrev pub out_of_turn : Record → Past → Bool
-out_of_turn r p = any_command (r ∷ p) && not (in_turn (place p) (r ∷ p))
 
 module _ (C : Chip) (r : Record) (p : Past) where
   -- the command speaks of bank b
@@ -90,5 +85,3 @@ module _ (C : Chip) (r : Record) (p : Past) where
     precharging : Start-pair partner needed found → Pair partner needed found 5
     five-acts : Fourth-pair partner needed found → Pair partner needed found 8
     no-refresh : Woken-pair partner needed found → Pair partner needed found 23
-    -- Q-8: "its record is the command out of turn, its partner none, needed and found 0"
-    out-of-turn : out_of_turn r p ≡ true → partner ≡ 0 → None needed found → Pair partner needed found 32

@@ -4,7 +4,7 @@
 use Rattle.std.specs.Prelude.{ℕ, ◌+◌, ◌-◌, ◌≤◌, ◌<◌, ◌≡◌, true, false}
 use Rattle.records.specs.declared.Command.TheVariants.{Ref, Pde}
 use Rattle.chip.specs.declared.Chip.{Chip}
-use Rattle.rules.specs.Past.{Past, edge, number, turns, is, latest, up_to}
+use Rattle.rules.specs.Past.{Past, edge, number, changes, is, latest, up_to}
 use Rattle.rules.specs.Banks.{act_on, is_idle, status}
 use Rattle.rules.specs.Deadlines.{owed_at, since_ref}
 use Rattle.means.specs.Partners.{Latest}
@@ -41,12 +41,12 @@ module _ (C : Chip) (q : Past) (t : ℕ) where
 
   -- the latest change of CKE up to the edge before t is a power-down entry, and was just longer ago than a stay may be
   abbrev pub Stayed : Type 0
-  Stayed = (s : Past) × Latest turns (up_to (t - 1) q) s × (is Pde s ≡ true) × (edge s + C.nine + 1 ≡ t)
+  Stayed = (s : Past) × Latest changes (up_to (t - 1) q) s × (is Pde s ≡ true) × (edge s + C.nine + 1 ≡ t)
 
   -- "partner the entry"; shown as 24 is: needed its limit, found one more
   pub record Stay-pair (partner needed found : ℕ) : Type 0 where
     pub event : Past
-    pub latest-of : Latest turns (up_to (t - 1) q) event
+    pub latest-of : Latest changes (up_to (t - 1) q) event
     pub entered : is Pde event ≡ true
     pub passed : edge event + C.nine + 1 ≡ t
     pub partner-is : partner ≡ number event

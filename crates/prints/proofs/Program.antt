@@ -15,20 +15,19 @@ use Rattle.header.specs.declared.Header.{Header}
 use Rattle.header.specs.declared.Parsed.{Parsed}
 use Rattle.header.specs.declared.Parsed.TheVariants.{Refused}
 use Rattle.header.specs.Bytes.{edition_for, header_refusal, header_word, header_of, parsed_of}
-use Rattle.wide.specs.Editions.{size, refusal}
+use Rattle.wide.specs.Editions.{size, view, refusal}
 use Rattle.wide.proofs.Editions.{count-both}
 use Rattle.chip.specs.Chip.{chip_of}
 use Rattle.running.specs.Ranges.{last_edge}
 use Rattle.running.specs.Ends.{no_end}
-use Rattle.edges.specs.Stretch.{reached}
+use Rattle.edges.proofs.Ranging as rank
 use Rattle.judge.specs.declared.State.{State}
 use Rattle.judge.specs.declared.Opened.{Opened}
-use Rattle.judge.specs.Calls as state
 use Rattle.judge.specs.Calls.{opened_by, open_of, of_second, closed, close_of}
 use Rattle.judge.proofs.Ranging as judge
-use Rattle.rules.specs.Power.{last_of, line_verdict, line_so_far, line_answer}
+use Rattle.rules.specs.Past.{edge, recording}
+use Rattle.rules.specs.Verdict.{shown_verdict, verdict_so_far, answer}
 use Rattle.rules.proofs.Facts.{Sound}
-use Rattle.sections.specs.Recording.{line_of}
 use Rattle.sections.specs.Sections.{Opens, after, refused}
 use Rattle.sections.proofs.Openings.{opened-state}
 use Rattle.sections.proofs.Section.{Stands, fits, first-stood, second-stood, close-is, refused-by}
@@ -55,44 +54,45 @@ refused-lines n s some = rw (ne_eqb n 0 some)
 module _ (h : Header) (S : Sound (chip_of h)) (e : ℕ) where
   -- a rank's line
   abbrev line_for : (second : Bool) → List ℕ → List ℕ
-  line_for second bs = verdict_line (line_so_far (chip_of h) (line_of e second bs))
+  line_for second bs = verdict_line (verdict_so_far (chip_of h) (recording (view e second bs)))
 
   abbrev lines_for : List ℕ → List ℕ × List ℕ
   lines_for bs = (line_for false bs, cond (eqb e 2) (line_for true bs) [])
 
   module _ (bs : List ℕ) (s : State) (a : Stands h e bs s) where
     -- the last edge of a state that stands is within bounds
-    near : reached s.one ≤ last_edge
-    near = let t = (judge.tested s a.range).first in omega (arith, t.count, t.reach)
+    near : s.one.edge ≤ last_edge
+    near = let t = rank.ranged s.one (judge.tested s a.range).rank in omega (arith, t.count, t.edge)
 
     abbrev at : ℕ
-    at = last_of (line_of e false bs)
+    at = edge (recording (view e false bs))
 
-    edge-is : state.last_of s ≡ at
-    unfolding state.last_of
-    edge-is = rw a.range (first-stood h S e bs s a).last
+    edge-is : s.one.edge ≡ at
+    edge-is = (first-stood h S e bs s a).last
 
-    closed_is : close_of s (state.last_of s) ≡ closed (line_answer (chip_of h) (line_of e false bs) at) (of_second e (line_answer (chip_of h) (line_of e true bs) at) no_end)
+    closed_is :
+        close_of s s.one.edge
+        ≡ closed (answer (chip_of h) (recording (view e false bs)) s.one.edge) (of_second e (answer (chip_of h) (recording (view e true bs)) s.one.edge) no_end)
     closed_is =
-        ap (close_of s) edge-is ∙ close-is h S e bs s a at
-        ∙ rw (le-ltb at at (omega arith), le-ltb last_edge at (omega (arith, near, (first-stood h S e bs s a).last)))
+        close-is h S e bs s a s.one.edge
+        ∙ rw (le-ltb s.one.edge at (omega (arith, edge-is)), le-ltb last_edge s.one.edge near)
 
     first-closes : answer_line 0 s ≡ line_for false bs
-    unfolding answer_line closing_line line_answer
-    first-closes = ap closing_line closed_is
+    unfolding answer_line closing_line answer
+    first-closes = ap closing_line closed_is ∙ ap (λ (t : ℕ). verdict_line (shown_verdict (chip_of h) (recording (view e false bs)) t)) edge-is
 
     -- both ranks have the last edge
     second-closes : second_line 0 s ≡ cond (eqb e 2) (line_for true bs) []
-    unfolding second_line closing_second line_answer
-    second-closes = ap (λ (k : ℕ). cond (eqb k 2) (closing_second (close_of s (state.last_of s))) []) (ap (λ (x : State). x.edition) a.state) ∙ go (eqb e 2) refl
+    unfolding second_line closing_second answer
+    second-closes = ap (λ (k : ℕ). cond (eqb k 2) (closing_second (close_of s s.one.edge)) []) (ap (λ (x : State). x.edition) a.state) ∙ go (eqb e 2) refl
       where
-        go : (x : Bool) → eqb e 2 ≡ x → cond x (closing_second (close_of s (state.last_of s))) [] ≡ cond x (line_for true bs) []
+        go : (x : Bool) → eqb e 2 ≡ x → cond x (closing_second (close_of s s.one.edge)) [] ≡ cond x (line_for true bs) []
         go true p =
             let two = eqb-true e 2 p in
             let same = ((judge.tested s a.range).second (ap (λ (x : State). x.edition) a.state ∙ two)).edge in
             ap closing_second closed_is
-            ∙ ap (λ (x : Bool). verdict_line (cond x (line_answer (chip_of h) (line_of e true bs) at) no_end).verdict) p
-            ∙ ap (λ (t : ℕ). verdict_line (line_verdict (chip_of h) (line_of e true bs) t)) (sym (first-stood h S e bs s a).last ∙ same ∙ (second-stood h S e bs s a).last)
+            ∙ ap (λ (x : Bool). verdict_line (cond x (answer (chip_of h) (recording (view e true bs)) s.one.edge) no_end).verdict) p
+            ∙ ap (λ (t : ℕ). verdict_line (shown_verdict (chip_of h) (recording (view e true bs)) t)) (same ∙ (second-stood h S e bs s a).last)
         go false p = refl
 
     -- closed at its last edge it has the verdicts so far

@@ -3,10 +3,10 @@
 -- Assumes nothing.
 use Rattle.std.specs.Prelude.{ℕ, zero, suc, ◌+◌, ◌/◌, Bool, true, false, cond, List, [], eqb, length, take, drop}
 use Rattle.header.specs.Bytes.{edition_for, header_refusal, header_word, header_of}
-use Rattle.wide.specs.Editions.{size, refusal}
+use Rattle.wide.specs.Editions.{size, view, refusal}
 use Rattle.chip.specs.Chip.{chip_of}
-use Rattle.rules.specs.Power.{line_so_far}
-use Rattle.sections.specs.Recording.{line_of}
+use Rattle.rules.specs.Past.{recording}
+use Rattle.rules.specs.Verdict.{verdict_so_far}
 use Rattle.lines.specs.Line.{verdict_line, refusal_line}
 
 -- the first refusal of sections of 6,000 bytes, in the order in which they come, after so many records of an edition; 0: all are taken
@@ -23,7 +23,7 @@ records_refused input = first_refusal (edition_for input) (length input + 1) 0 (
 -- the rules' verdict on the uncut recording at its last record's edge, as a rank sees it
 abbrev pub rank_line : (second : Bool) → List ℕ → List ℕ
 rank_line second input =
-    verdict_line (line_so_far (chip_of (header_of (header_word (take 6 input)))) (line_of (edition_for input) second (drop 6 input)))
+    verdict_line (verdict_so_far (chip_of (header_of (header_word (take 6 input)))) (recording (view (edition_for input) second (drop 6 input))))
 
 -- the first rank's line, and the second's, which is none in edition 1
 abbrev pub verdict_lines : List ℕ → List ℕ × List ℕ

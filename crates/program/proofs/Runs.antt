@@ -13,7 +13,7 @@ use Rattle.judge.specs.declared.State.{State}
 use Rattle.judge.specs.declared.Opened.{Opened as Opening}
 use Rattle.judge.specs.declared.Taken.{Taken}
 use Rattle.judge.specs.declared.Closed.{Closed}
-use Rattle.judge.specs.Calls.{open_of, section_of, last_of, close_of}
+use Rattle.judge.specs.Calls.{open_of, section_of, close_of}
 use Rattle.lines.specs.Line.{verdict_line, Printed}
 use Rattle.program.specs.Answer.{closing_second, second_line}
 use Rattle.program.specs.declared.Run.{Run}
@@ -57,18 +57,18 @@ pub no_second : (refused : ℕ) (s : State) (before : List ℕ) → (not (eqb re
 unfolding second_line
 no_second refused s before = go (eqb refused 0) (eqb s.edition 2)
   where
-    go : (x y : Bool) → (not x || not y) ≡ true → Printed (cond (x && y) (closing_second (close_of s (last_of s))) []) before 0 before
+    go : (x y : Bool) → (not x || not y) ≡ true → Printed (cond (x && y) (closing_second (close_of s s.one.edge)) []) before 0 before
     go true true h = absurd (true≢false (sym h))
     go true false h = nothing before
     go false y h = nothing before
 
 -- else it is that of closing
-module _ (refused : ℕ) (s : State) (c : Closed) (is : c ≡ close_of s (last_of s)) (h : (not (eqb refused 0) || not (eqb s.edition 2)) ≡ false) where
+module _ (refused : ℕ) (s : State) (c : Closed) (is : c ≡ close_of s s.one.edge) (h : (not (eqb refused 0) || not (eqb s.edition 2)) ≡ false) where
   second_is : second_line refused s ≡ closing_second c
   unfolding second_line
   second_is = go (eqb refused 0) (eqb s.edition 2) h ∙ ap closing_second (sym is)
     where
-      go : (x y : Bool) → (not x || not y) ≡ false → cond (x && y) (closing_second (close_of s (last_of s))) [] ≡ closing_second (close_of s (last_of s))
+      go : (x y : Bool) → (not x || not y) ≡ false → cond (x && y) (closing_second (close_of s s.one.edge)) [] ≡ closing_second (close_of s s.one.edge)
       go true true h = refl
       go true false h = absurd (true≢false h)
       go false y h = absurd (true≢false h)

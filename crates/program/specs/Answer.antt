@@ -3,7 +3,7 @@
 use Rattle.std.specs.Prelude.{ℕ, cond, ◌&&◌, List, [], eqb}
 use Rattle.judge.specs.declared.State.{State}
 use Rattle.judge.specs.declared.Closed.{Closed}
-use Rattle.judge.specs.Calls.{last_of, close_of}
+use Rattle.judge.specs.Calls.{close_of}
 use Rattle.lines.specs.Line.{verdict_line, refusal_line}
 
 -- closing is refused or has a verdict
@@ -12,11 +12,11 @@ closing_line c = cond (eqb c.refused 0) (verdict_line c.end.verdict) (refusal_li
 
 -- "stops at the first refusal, and closes at the last record's edge"
 unfoldable pub answer_line : (refused : ℕ) → State → List ℕ
-answer_line refused s = cond (eqb refused 0) (closing_line (close_of s (last_of s))) (refusal_line refused)
+answer_line refused s = cond (eqb refused 0) (closing_line (close_of s s.one.edge)) (refusal_line refused)
 
 -- the second rank's line, which only edition 2 has
 unfoldable pub closing_second : Closed → List ℕ
 closing_second c = cond (eqb c.refused 0) (verdict_line c.second.verdict) []
 
 unfoldable pub second_line : (refused : ℕ) → State → List ℕ
-second_line refused s = cond (eqb refused 0 && eqb s.edition 2) (closing_second (close_of s (last_of s))) []
+second_line refused s = cond (eqb refused 0 && eqb s.edition 2) (closing_second (close_of s s.one.edge)) []

@@ -75,7 +75,7 @@ pub fn line(run: Run, text: &mut [u8; ROOM]) -> usize
         return lines::refusal_line(run.refused, text);
     }
     let state = run.state;
-    let c = state.close(state.last());
+    let c = state.close(state.one.edge);
     if c.refused != 0 {
         return lines::refusal_line(c.refused, text);
     }
@@ -90,7 +90,7 @@ pub fn second_line(run: Run, text: &mut [u8; ROOM]) -> usize
         return 0;
     }
     let state = run.state;
-    let c = state.close(state.last());
+    let c = state.close(state.one.edge);
     if c.refused != 0 {
         return 0;
     }

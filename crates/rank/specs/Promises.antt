@@ -5,17 +5,12 @@ use Rattle.std.specs.Prelude.{ℕ, List, ◌≡◌}
 use Rattle.answers.specs.declared.End.{End}
 use Rattle.chip.specs.declared.Chip.{Chip}
 use Rattle.edges.specs.declared.Folded.{Folded}
-use Rattle.edges.specs.declared.Lowered.{Lowered}
 use Rattle.edges.specs.declared.Rank.{Rank}
-use Rattle.edges.specs.Ends.{taken_of, lowered_of, ended_of}
+use Rattle.edges.specs.Ends.{taken_of, ended_of}
 
 -- `take`
 abbrev pub Take : (chip : Chip) (s : Rank) (bytes : List ℕ) (r : Folded) → Type 0
 Take chip s bytes r = r ≡ taken_of chip s bytes
-
--- `lowered`
-abbrev pub Falls : (chip : Chip) (s : Rank) (step : ℕ) (r : Lowered) → Type 0
-Falls chip s step r = r ≡ lowered_of chip s step
 
 -- `end`
 abbrev pub Ended : (chip : Chip) (s : Rank) (at : ℕ) (r : End) → Type 0

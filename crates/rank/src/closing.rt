@@ -69,7 +69,7 @@ fn verdict_of(chip: Chip, s: Rank, end: u64) -> Verdict
 }
 
 // The deadline that passes first; at hi or later where none passes before hi.
-pub(crate) fn next_late(chip: Chip, s: Rank, hi: u64) -> Late
+fn next_late(chip: Chip, s: Rank, hi: u64) -> Late
     requires small { Small chip }
     requires ranged { Ranged s }
     ensures { result ≡ ends.next_late chip s hi }

@@ -10,7 +10,6 @@ use crate::settling::settled;
 use crate::smooth::smoothly;
 use chip::Chip;
 use edges::{Acts, Banks, Device, Folded, Rank, Waits};
-use kept::ordering;
 
 #[derive(Drop)]
 struct Laned {
@@ -18,14 +17,11 @@ struct Laned {
     rank: Rank,
 }
 
-// The lane from a rank on, and the rank that it comes to: none while the order after power-up is to be kept.
+// The lane from a rank on, and the rank that it comes to.
 fn run_on(chip: Chip, s: Rank, bytes: &[u8], from: usize) -> Laned
     requires { folding.Reached chip bytes.now s from s from }
     ensures { folding.Reached chip bytes.now s from result.rank result.at }
 {
-    if ordering(s.place) {
-        return Laned { at: from, rank: s };
-    }
     let first = s.first;
     let banks = s.banks;
     let waits = s.waits;
@@ -130,7 +126,6 @@ fn run_on(chip: Chip, s: Rank, bytes: &[u8], from: usize) -> Laned
         waits: waits1,
         acts: acts1,
         device: device1,
-        place: s.place,
     };
     Laned {
         at: ran.at,

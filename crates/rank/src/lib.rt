@@ -1,4 +1,4 @@
-// One rank of the running judge: the loop over a section's records, its end, and RESET that falls.
+// One rank of the running judge: the loop over a section's records, and its end.
 mod asked;
 mod asking;
 mod banks;
@@ -13,7 +13,6 @@ mod device;
 mod entering;
 mod fold;
 mod latest;
-mod lowering;
 mod moved;
 mod numbers;
 mod owing;
@@ -31,5 +30,4 @@ mod waiting;
 mod ways;
 
 pub use closing::end;
-pub use lowering::lowered;
 pub use taking::take;

@@ -2,7 +2,7 @@
 ghost use Rattle.std.specs.Prelude.{◌≡◌, ◌+◌, ◌≤◌};
 ghost use Rattle.running.specs.Ranges.{Small, limit};
 ghost use Rattle.edges.specs.Ranges.{Ranged};
-ghost use Rattle.edges.specs.Step as steps;
+ghost use Rattle.edges.specs.Step as step;
 
 use crate::banks::{banks_next, start_of};
 use crate::clocks::regs_of;
@@ -12,9 +12,8 @@ use crate::said::said;
 use crate::slow::slow_now;
 use crate::waiting::waits_next;
 use answers::Verdict;
-use chip::{Chip, chip_for};
+use chip::Chip;
 use edges::Rank;
-use kept::place_next;
 use records::{Record, command_of};
 
 fn moved(chip: Chip, s: Rank, r: Record) -> Rank
@@ -22,7 +21,7 @@ fn moved(chip: Chip, s: Rank, r: Record) -> Rank
     requires ranged { Ranged s }
     requires step_bound { r.step ≤ 16777216 }
     requires count_bound { s.count + 1 ≤ limit }
-    ensures { result ≡ steps.moved_of chip s r }
+    ensures { result ≡ step.moved_of chip s r }
 {
     let e = s.edge + r.step;
     let n = s.count + 1;
@@ -38,10 +37,9 @@ fn moved(chip: Chip, s: Rank, r: Record) -> Rank
     let slow = slow_now(actno, shutno, codes, written);
     let debt = debt_next(chip, c, e, s.debt);
     let banks = banks_next(chip, c, r, e, n, g, start, s.banks);
-    let tuned = chip_for(chip, s.place == 5);
-    let waits = waits_next(tuned, c, r, e, g, start, four, slow, s.waits);
+    let waits = waits_next(chip, c, r, e, g, start, four, slow, s.waits);
     let acts = acts_next(c, e, n, s.acts);
-    let device = device_next(tuned, c, r, e, n, slow, s.device);
+    let device = device_next(chip, c, r, e, n, slow, s.device);
     Rank {
         edge: e,
         count: n,
@@ -52,19 +50,18 @@ fn moved(chip: Chip, s: Rank, r: Record) -> Rank
         waits: waits,
         acts: acts,
         device: device,
-        place: place_next(c, s.place),
     }
 }
 
 // The break, and the rest as it was just before the broken edge.
-pub(crate) fn stopped(s: Rank, step: u64, v: Verdict) -> Rank
+fn stopped(s: Rank, r: Record, v: Verdict) -> Rank
     requires ranged { Ranged s }
-    requires step_bound { step ≤ 16777216 }
+    requires step_bound { r.step ≤ 16777216 }
     requires count_bound { s.count + 1 ≤ limit }
-    ensures { result ≡ steps.stopped_by s step v }
+    ensures { result ≡ step.stopped_of s r v }
 {
     let mut x = s;
-    x.edge = s.edge + step;
+    x.edge = s.edge + r.step;
     x.count = s.count + 1;
     x.first = v;
     x
@@ -75,17 +72,17 @@ pub(crate) fn step(chip: Chip, s: Rank, r: Record) -> Rank
     requires ranged { Ranged s }
     requires step_bound { r.step ≤ 16777216 }
     requires count_bound { s.count + 1 ≤ limit }
-    ensures { result ≡ steps.step_of chip s r }
+    ensures { result ≡ step.step_of chip s r }
 {
     let broken = s.first.outcome;
     if broken != 0 {
         let first = s.first;
-        return stopped(s, r.step, first);
+        return stopped(s, r, first);
     }
     let v = said(chip, s, r);
     let outcome = v.outcome;
     if outcome != 0 {
-        return stopped(s, r.step, v);
+        return stopped(s, r, v);
     }
     moved(chip, s, r)
 }

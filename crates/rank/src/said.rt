@@ -1,10 +1,9 @@
-// What is said of a record: the gap before it, its edge, and rules 1 to 32.
+// What is said of a record: the gap before it, its edge, and rules 1 to 31.
 ghost use Rattle.std.specs.Prelude.{◌≡◌, ◌+◌, ◌≤◌, cond, not};
 ghost use Rattle.answers.specs.declared.Break.TheVariants.{Fine};
 ghost use Rattle.running.specs.Breaks.{rule2};
 ghost use Rattle.running.specs.Down as down;
 ghost use Rattle.running.specs.Ranges.{Small, limit};
-ghost use Rattle.running.specs.Said as tells;
 ghost use Rattle.edges.specs.Asks as asks;
 ghost use Rattle.edges.specs.Ranges.{Ranged};
 ghost use Rattle.edges.specs.Says as says;
@@ -17,8 +16,8 @@ use answers::{Break, Verdict};
 use chip::Chip;
 use edges::{Banks, Rank, Waits};
 use kept::{
-    barred, exit_rules, first_barred, joined, last_rules, or_else, rule3, rule26, rule27, rule32,
-    spacings, speaks_of_all,
+    barred, exit_rules, first_barred, joined, last_rules, or_else, rule3, rule26, rule27, spacings,
+    speaks_of_all,
 };
 use records::{Command, Record, command_of, rank_of};
 use running::{Late, Shared};
@@ -82,7 +81,7 @@ fn spaced_in(chip: Chip, s: Rank, c: Command, r: Record, e: u64) -> Break
     requires c_value { c ≡ says.command_in s r }
     ensures { result ≡ says.spaced_in chip s r e }
 {
-    let shared = shared_of(chip, s.banks, s.acts, s.device, s.place);
+    let shared = shared_of(chip, s.banks, s.acts, s.device);
     if wait_for(s.waits, c, r) <= e {
         return last_rules(c, e, shared);
     }
@@ -132,7 +131,7 @@ fn changed_in(chip: Chip, s: Rank, c: Command, r: Record, e: u64) -> Break
     requires c_value { c ≡ says.command_in s r }
     ensures { result ≡ says.changed_in chip s r e }
 {
-    let shared = shared_of(chip, s.banks, s.acts, s.device, s.place);
+    let shared = shared_of(chip, s.banks, s.acts, s.device);
     let held = rule27(turns(s.level, r.cke), e, shared);
     or_else(entered(chip, s, c, shared, e), held)
 }
@@ -145,7 +144,7 @@ fn left_in(chip: Chip, s: Rank, c: Command, r: Record, e: u64) -> Break
     if wait_for(s.waits, c, r) <= e {
         return Break::Fine;
     }
-    exit_rules(c, e, shared_of(chip, s.banks, s.acts, s.device, s.place))
+    exit_rules(c, e, shared_of(chip, s.banks, s.acts, s.device))
 }
 
 // ── What is said ────────────────────────────────────────────────────────────────────────────
@@ -160,16 +159,8 @@ fn owing(c: Command, e: u64, x: Late) -> Break
     Break::Fine
 }
 
-// Rules 29 to 32 at the edge e.
-fn said_last(e: u64, n: u32, x31: Late, left: Break, ordered: Break) -> Verdict
-    ensures { result ≡ tells.first (tells.verdict_at e n left) (tells.first (tells.verdict_at e 0 (tells.late_at e x31)) (tells.verdict_at e n ordered)) }
-{
-    let at31 = first(verdict_at(e, 0, late_at(e, x31)), verdict_at(e, n, ordered));
-    first(verdict_at(e, n, left), at31)
-}
-
 // A deadline before the edge e; else by number what the record breaks, and the deadlines at e. No break: all 0.
-// rules: of 1 to 23; owes: of 25 at the edge; changed: of 26 and 27; left: of 29 and 30; ordered: of 32.
+// rules: of 1 to 23; owes: of 25 at the edge; changed: of 26 and 27; left: of 29 and 30.
 fn says_by(
     e: u64,
     n: u32,
@@ -181,16 +172,16 @@ fn says_by(
     owes: Break,
     changed: Break,
     left: Break,
-    ordered: Break,
 ) -> Verdict
-    ensures { result ≡ says.says_by e n x24 x25 x28 x31 rules owes changed left ordered }
+    ensures { result ≡ says.says_by e n x24 x25 x28 x31 rules owes changed left }
 {
     let x = sooner(x24, sooner(x25, sooner(x28, x31)));
     if x.at < e {
         return verdict_at(x.at, 0, why(x));
     }
-    let at29 = said_last(e, n, x31, left, ordered);
-    let at28 = first(verdict_at(e, 0, late_at(e, x28)), at29);
+    let at31 = verdict_at(e, 0, late_at(e, x31));
+    let at30 = first(verdict_at(e, n, left), at31);
+    let at28 = first(verdict_at(e, 0, late_at(e, x28)), at30);
     let at26 = first(verdict_at(e, n, changed), at28);
     let at25 = first(verdict_at(e, 0, owes), at26);
     let at24 = first(verdict_at(e, 0, late_at(e, x24)), at25);
@@ -216,7 +207,6 @@ pub(crate) fn said(chip: Chip, s: Rank, r: Record) -> Verdict
     let owes = owing(c, e, x25);
     let changed = changed_in(chip, s, c, r, e);
     let left = left_in(chip, s, c, r, e);
-    let ordered = rule32(s.place, c, r);
     says_by(
         e,
         s.count + 1,
@@ -228,6 +218,5 @@ pub(crate) fn said(chip: Chip, s: Rank, r: Record) -> Verdict
         owes,
         changed,
         left,
-        ordered,
     )
 }

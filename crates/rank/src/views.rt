@@ -1,6 +1,5 @@
 // What is kept, as the rules ask for it: the marks of a bank, and those that all banks share.
 ghost use Rattle.std.specs.Prelude.{◌≡◌, cond, ◌≤◌, ◌<◌, ltb, get_or};
-ghost use Rattle.running.specs.Order as order;
 ghost use Rattle.edges.specs.Views as views;
 
 use chip::{Chip, Regs};
@@ -208,37 +207,18 @@ fn device_mark(device: Device, i: usize) -> Mark
     }
 }
 
-fn rests_of(chip: Chip, place: u64, device: Device) -> Rests
-    ensures { result ≡ views.rests_of chip place device }
+fn rests_of(device: Device) -> Rests
+    ensures { result ≡ views.rests_of device }
 {
     Rests {
         refreshed: device_mark(device, 0),
         tuned: device_mark(device, 2),
         reset: reset_of(device_mark(device, 4), device_mark(device, 5)),
         woke: device_mark(device, 4),
-        risen: rise_mark(place, chip.txs),
         slept: device_mark(device, 3),
         turned: device_mark(device, 6),
         left: device_mark(device, 7),
         slow: device_mark(device, 8),
-    }
-}
-
-// The rise that ended a reset stands at edge 0 of its stretch, as its first record.
-fn rise_mark(place: u64, txs: u32) -> Mark
-    ensures { result ≡ order.rise_mark place txs }
-{
-    if place == 0 {
-        return Mark {
-            at: 0,
-            num: 0,
-            need: 0,
-        };
-    }
-    Mark {
-        at: 0,
-        num: 1,
-        need: txs,
     }
 }
 
@@ -283,9 +263,9 @@ pub(crate) fn regs_of(device: Device) -> Regs
 }
 
 // What rules 4 to 30 look at; now, level and debt they do not.
-pub(crate) fn shared_of(chip: Chip, banks: Banks, acts: Acts, device: Device, place: u64) -> Shared
+pub(crate) fn shared_of(chip: Chip, banks: Banks, acts: Acts, device: Device) -> Shared
     requires { acts.turn ≤ 3 }
-    ensures { result ≡ views.shared_of chip banks acts device place }
+    ensures { result ≡ views.shared_of chip banks acts device }
 {
     let last = [
         act_back(chip, acts, 0),
@@ -297,7 +277,7 @@ pub(crate) fn shared_of(chip: Chip, banks: Banks, acts: Acts, device: Device, pl
         now: 0,
         level: true,
         acts: last,
-        rests: rests_of(chip, place, device),
+        rests: rests_of(device),
         debt: Debt {
             sleeps: false,
             phase: 0,

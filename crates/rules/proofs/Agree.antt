@@ -23,12 +23,12 @@ use Rattle.running.specs.declared.Read.{Read}
 use Rattle.running.specs.declared.Wrote.{Wrote}
 use Rattle.running.specs.Marks.{empty, needing, as10, as11, as13, as14, as19}
 use Rattle.running.specs.Breaks as running
-use Rattle.rules.specs.Past.{Past, edge, number, rises, command, is, bank_of, on, latest, back, greatest}
+use Rattle.rules.specs.Past.{Past, edge, number, command, is, bank_of, on, latest, back, greatest}
 use Rattle.answers.specs.Answer.{or_else}
 use Rattle.rules.specs.Search.{Spacing, row}
 use Rattle.rules.specs.Registers.{dll_reset}
 use Rattle.rules.specs.Banks.{act_on, closes, shuts, start, status}
-use Rattle.rules.specs.Rules.{concerns, barred, covered, r4, r6, r7, r9, r10, r11, r12r, r12w, r13, r14, r15, r16, r17, r18, r19, r20, r21, r21u, r22, rule2, rule3, rule5, rule23, spacing, checks, break_at}
+use Rattle.rules.specs.Rules.{concerns, barred, covered, r4, r6, r7, r9, r10, r11, r12r, r12w, r13, r14, r15, r16, r17, r18, r19, r20, r21, r22, rule2, rule3, rule5, rule23, spacing, checks, break_at}
 use Rattle.rules.proofs.Generic.{decide, Dominated, constant-dominated}
 use Rattle.rules.proofs.Events.{never, push}
 use Rattle.rules.proofs.Clean.{Clean, lowest-ext, wants_all, act-not-all}
@@ -174,9 +174,8 @@ module _ (C : Chip) (S : Sound C) (r : Record) (p : Past) (h : Clean C p) where
       (row-also (spacing C r19) (as19 read) (dominated19 C S p h) (as19-mark C (latest (is Rd) p))
       (row-also (spacing C r20) (mark (λ _. 512) (latest (λ s. dll_reset s || is Srx s) p)) (constant-dominated _ 512 p) refl
       (row-also (spacing C r21) (mark (λ _. C.txs) (latest (is Srx) p)) (constant-dominated _ C.txs p) refl
-      (row-also (spacing C r21u) (mark (λ _. C.txs) (latest rises p)) (constant-dominated _ C.txs p) refl
       (row-also (spacing C r22) (mark (λ _. C.tcke + 1) (latest (is Sre) p)) (constant-dominated _ (C.tcke + 1) p) refl
-      (marks23 ∙ sym (or-fine (rule23 C r p)))))))))))))))))))))))
+      (marks23 ∙ sym (or-fine (rule23 C r p))))))))))))))))))))))
 
   pub agrees3 : running.rule3 C c r (written C p) ≡ rule3 C r p
   unfolding running.rule3 written

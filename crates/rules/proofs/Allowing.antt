@@ -18,12 +18,12 @@ use Rattle.records.specs.declared.Command.TheVariants.{Mrs, Ref, Pre, Act, Wr, R
 use Rattle.records.specs.Command.{is_a, counts, a10}
 use Rattle.chip.specs.declared.Chip.{Chip}
 use Rattle.running.specs.Waits.{ends}
-use Rattle.rules.specs.Past.{Past, edge, number, command, is, bank_of, on, back, greatest, rises}
+use Rattle.rules.specs.Past.{Past, edge, number, command, is, bank_of, on, back, greatest}
 use Rattle.rules.specs.Registers.{dll_reset}
 use Rattle.rules.specs.Banks.{act_on, closes, shuts, start}
 use Rattle.rules.specs.Down.{slow_exit}
 use Rattle.rules.specs.Search.{look_back, asking, Spacing, row}
-use Rattle.rules.specs.Rules.{r4, r6, r7, r9, r10, r11, r12r, r12w, r13, r14, r15, r16, r17, r18, r19, r20, r21, r22, r29, r30, spacing, spaced, since, fourth, rule1, rule2, rule3, rule5, rule8, rule23, checks, break_at, r21u}
+use Rattle.rules.specs.Rules.{r4, r6, r7, r9, r10, r11, r12r, r12w, r13, r14, r15, r16, r17, r18, r19, r20, r21, r22, r29, r30, spacing, spaced, since, fourth, rule1, rule2, rule3, rule5, rule8, rule23, checks, break_at}
 use Rattle.rules.specs.Waiting.{Ask, furthest, of_all, of_banks, by, by_start, after_fourth, by_fourth, asks, wait, wait_at, spacing_rules, waiting_rules}
 use Rattle.rules.proofs.Generic.{decide, edge-le, kept_fine, short-fine, fine-kept}
 use Rattle.rules.proofs.Events.{never, or_else-fine, back-edge}
@@ -94,7 +94,7 @@ module _ (C : Chip) where
       ∷ (is_a Rd c, by C r12r (is Rd)) ∷ (is_a Wr c, by C r12w (is Wr)) ∷ (is_a Wr c, by C r13 (is Rd)) ∷ (is_a Rd c, by C r14 (is Wr))
       ∷ (counts c, by C r15 (is Ref)) ∷ (is_a Mrs c, by C r16 (is Mrs)) ∷ (counts c && not (is_a Mrs c), by C r17 (is Mrs))
       ∷ (counts c, by C r18 (is Zq)) ∷ (is_a Mrs c || is_a Sre c, by C r19 (is Rd)) ∷ (is_a Rd c, by C r20 (λ s. dll_reset s || is Srx s))
-      ∷ (counts c, by C r21 (is Srx)) ∷ (counts c, by C r21u rises) ∷ (counts c, by C r29 (is Pdx)) ∷ (is_a Rd c, by C r30 (slow_exit C)) ∷ []
+      ∷ (counts c, by C r21 (is Srx)) ∷ (counts c, by C r29 (is Pdx)) ∷ (is_a Rd c, by C r30 (slow_exit C)) ∷ []
 
   -- command by command these are the asks, but for a PRE of all banks
   every-asks : (c : Command) (a : Bool) (b : ℕ) → is_a Pre c && a ≡ false → chosen (every_ask c b (λ s. a || on b s)) ≡ asks C c b
@@ -186,10 +186,9 @@ module _ (C : Chip) (S : Sound C) (r : Record) (p : Past) where
       (row-tie (spacing C r19)
       (row-tie (spacing C r20)
       (row-tie (spacing C r21)
-      (row-tie (spacing C r21u)
       (row-tie (spacing C r29)
       (row-tie (spacing C r30)
-      (record { to = λ _. omega arith; from = λ _. refl }))))))))))))))))))))))
+      (record { to = λ _. omega arith; from = λ _. refl })))))))))))))))))))))
 
   -- ── A PRE of all banks ────────────────────────────────────────────────────────────────────
 

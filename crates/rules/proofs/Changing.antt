@@ -1,6 +1,5 @@
 -- What is said of a record after a clean past by rules 26, 27, 29 and 30 is what the rules say, looking back.
 -- Assumes nothing.
-use Rattle.rules.specs.Order.{place}
 use Prim.Native.Nat.{ℕ, zero, suc, ◌≤◌, ◌<◌}
 use native.Mathlib.Omega.{arith}
 use mathlib.Core.Path.{◌≡◌, refl, sym, ap, ◌∙◌}
@@ -21,19 +20,18 @@ use Rattle.running.specs.declared.Mark.{Mark}
 use Rattle.running.specs.Marks.{empty, needing}
 use Rattle.running.specs.Marks as marks
 use Rattle.running.specs.Down as running
-use Rattle.running.specs.Order as order
 use Rattle.running.specs.Down.{later_of, latest_of, entry_read, entry_write}
-use Rattle.rules.specs.Past.{Past, edge, changes, turns, command, is, bank_of, latest}
+use Rattle.rules.specs.Past.{Past, edge, changes, command, is, bank_of, latest}
 use Rattle.rules.specs.Registers.{regs}
 use Rattle.rules.specs.Down.{turned, slow_exit}
 use Rattle.rules.specs.Search.{look_back, asking, row}
-use Rattle.rules.specs.Rules.{r26, r27, r29, r30, to_entry, spacing, exit_checks, break_at, rule32, order_checks}
+use Rattle.rules.specs.Rules.{r26, r27, r29, r30, to_entry, spacing, exit_checks, break_at}
 use Rattle.rules.proofs.Generic.{Dominated, edge-reached, latest-only, constant-dominated}
 use Rattle.rules.proofs.Clean.{Clean, is-other}
 use Rattle.rules.proofs.Facts.{Sound}
 use Rattle.rules.proofs.Dominate.{bank-small}
 use Rattle.rules.proofs.Summary.{mark, wr_on, read_of, kept, rests, shared}
-use Rattle.rules.proofs.Words.{check, check-mark, needing-mark, or-fine}
+use Rattle.rules.proofs.Words.{check, check-mark, needing-mark}
 use Rattle.rules.proofs.Either.{either-kind, any-kind, asks-same, latest-of-same}
 use Rattle.rules.proofs.Entry.{after_read, after_write, dominated26r, dominated26w}
 use Rattle.rules.proofs.Entering.{read-agrees, write-agrees}
@@ -132,15 +130,10 @@ module _ (C : Chip) (S : Sound C) (r : Record) (p : Past) (h : Clean C p) (far :
 
   pub agrees27 : running.rule27 (changes (r ∷ p)) e (shared C p) ≡ or_else (row (spacing C r27) r p) Fine
   unfolding shared rests
-  agrees27 = row-also C S r p h (spacing C r27) (mark (λ _. C.tcke) (turned p)) (constant-dominated turns C.tcke p) refl refl
+  agrees27 = row-also C S r p h (spacing C r27) (mark (λ _. C.tcke) (turned p)) (constant-dominated changes C.tcke p) refl refl
 
   pub exits-agree : running.exit_rules c e (shared C p) ≡ break_at (exit_checks C) r p
   unfolding running.exit_rules shared rests
   exits-agree =
       row-also C S r p h (spacing C r29) (mark (λ _. C.txp) (latest (is Pdx) p)) (constant-dominated (is Pdx) C.txp p) refl
       (row-also C S r p h (spacing C r30) (mark (λ _. C.txpdll) (latest (slow_exit C) p)) (constant-dominated (slow_exit C) C.txpdll p) refl refl)
-
-  -- rule 32, by how far the order has come
-  pub order-agrees : order.rule32 (place p) c r ≡ break_at (order_checks C) r p
-  unfolding order.rule32
-  order-agrees = sym (or-fine (rule32 C r p))

@@ -2,7 +2,6 @@
 -- Assumes nothing.
 use Prim.Native.Nat.{ℕ, ◌+◌, ◌%◌, ◌≤◌}
 use native.Mathlib.Omega.{arith}
-use mathlib.Core.Logic.{inl}
 use mathlib.Core.Path.{◌≡◌, refl, sym, ap, ◌∙◌}
 use mathlib.Core.Bool.{Bool, true, false, cond}
 use mathlib.Core.List.{List, [], ◌∷◌, ◌++◌, reverse, reverse_aux}
@@ -38,7 +37,7 @@ steps (r ∷ rs) h = let w = zero-cons r rs h in (w.0, steps rs w.1)
 
 pub apart-all : (rs : List Record) (p : Past) → Steps rs → Apart p → Apart (reverse_aux rs p)
 apart-all [] p s a = a
-apart-all (r ∷ rs) p s a = apart-all rs (r ∷ p) s.1 (inl s.0, a)
+apart-all (r ∷ rs) p s a = apart-all rs (r ∷ p) s.1 (s.0, a)
 
 -- ── A past ──────────────────────────────────────────────────────────────────────────────────
 

@@ -10,7 +10,6 @@ use lib.Dec.{eqb}
 use borrow.Author.Tests.{eqb-true, eq-eqb}
 use Rattle.laws.specs.Among.{first, next}
 use Rattle.laws.proofs.Both.{both}
-use Rattle.header.specs.Counts.{zq_init}
 use Rattle.records.specs.declared.Record.{Record}
 use Rattle.records.specs.declared.Command.TheVariants.{Mrs, Act, Wr, Rd, Zq}
 use Rattle.records.specs.Command.{a10, counts}
@@ -18,7 +17,6 @@ use Rattle.chip.specs.declared.Chip.{Chip}
 use Rattle.chip.specs.Latencies.{al_of, cl_of, cwl_of, h_of}
 use Rattle.rules.specs.Past.{Past, edge, is, bank_of, address_of, a10_of, column, any_command, ◌∈◌, here, there, latest}
 use Rattle.rules.specs.Registers.{mrs_to, regs, al, cl, cwl, wl, rl, h, b, wr}
-use Rattle.rules.specs.Order.{initial}
 use Rattle.rules.specs.Banks.{act_on, touches, is_idle, start, status}
 use Rattle.rules.specs.Rules.{covered, spacing, r6, r11, r12r, r12w, r14, r18, r19}
 use Rattle.rules.proofs.Generic.{decide, edge-le, Dominated}
@@ -46,7 +44,7 @@ module _ (C : Chip) where
   need14 s = cwl s + h s + C.twtr
 
   abbrev pub need18 : Past → ℕ
-  need18 s = cond (initial s) (zq_init C.header).clocks (cond (a10_of s) C.zqlong C.zqshort)
+  need18 s = cond (a10_of s) C.zqlong C.zqshort
 
   abbrev pub need19 : Past → ℕ
   need19 s = rl s + b s

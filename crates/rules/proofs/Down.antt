@@ -5,19 +5,19 @@ use Prim.Native.Nat.{ℕ, zero, suc, ◌<◌}
 use native.Mathlib.Omega.{arith}
 use mathlib.Core.Path.{◌≡◌, refl, sym, ap, ◌∙◌}
 use mathlib.Core.Logic.{⊎_elim}
-use mathlib.Core.Bool.{Bool, true, false, cond, not, ◌||◌, ◌&&◌}
+use mathlib.Core.Bool.{Bool, true, false, cond, not, ◌||◌}
 use mathlib.Core.List.{[], ◌∷◌}
 use lib.Dec.{eqb, leb, ltb}
 use Rattle.laws.specs.Any.{any_of}
 use Rattle.answers.specs.declared.Bank.TheVariants.{Idle, Open, Closing}
 use Rattle.records.specs.declared.Record.{Record}
 use Rattle.records.specs.declared.Command.{Command}
-use Rattle.records.specs.declared.Command.TheVariants.{Mrs, Ref, Pre, Act, Wr, Rd, Zq, Nop, Des, Sre, Srx, Low, Bad, Pde, Pdx}
+use Rattle.records.specs.declared.Command.TheVariants.{Sre, Srx, Low, Bad, Pde, Pdx}
 use Rattle.records.specs.Command.{by_pins, falling, rising, command_of, is_a}
 use Rattle.chip.specs.declared.Chip.{Chip}
 use Rattle.running.specs.declared.Kept.{Kept}
 use Rattle.running.specs.Breaks.{status_of}
-use Rattle.rules.specs.Past.{Past, edge, cke, rises, changes, turns, asleep, command, is, latest}
+use Rattle.rules.specs.Past.{Past, edge, cke, changes, asleep, command, is, latest}
 use Rattle.rules.specs.Banks.{touches, is_open, seen, status}
 use Rattle.rules.specs.Down.{turned, down, precharged}
 use Rattle.rules.proofs.Generic.{decide}
@@ -26,53 +26,27 @@ use Rattle.rules.proofs.Clean.{Clean, clean-tail, not-bad}
 use Rattle.rules.proofs.Summary.{kept}
 use Rattle.rules.proofs.Status.{status-of}
 
--- with CKE high there is no entry
-no-entry : (n : ℕ) → is_a Pde (by_pins n) ≡ false
-unfolding by_pins
-no-entry n = go (eqb n 0) (eqb n 1) (eqb n 2) (eqb n 3) (eqb n 4) (eqb n 5) (eqb n 6) (eqb n 7)
-  where
-    go : (x0 x1 x2 x3 x4 x5 x6 x7 : Bool)
-        → is_a Pde (cond x0 Mrs (cond x1 Ref (cond x2 Pre (cond x3 Act (cond x4 Wr (cond x5 Rd (cond x6 Zq (cond x7 Nop Des)))))))) ≡ false
-    go true x1 x2 x3 x4 x5 x6 x7 = refl
-    go false true x2 x3 x4 x5 x6 x7 = refl
-    go false false true x3 x4 x5 x6 x7 = refl
-    go false false false true x4 x5 x6 x7 = refl
-    go false false false false true x5 x6 x7 = refl
-    go false false false false false true x6 x7 = refl
-    go false false false false false false true x7 = refl
-    go false false false false false false false true = refl
-    go false false false false false false false false = refl
-
 module _ (C : Chip) where
   pub down_is : (p : Past) → Clean C p → down p ≡ not (cke p || asleep p)
   unfolding asleep command_of falling rising
   down_is [] h = refl
   down_is (r ∷ p) h =
-      sym (push (is Pde) (turns (r ∷ p)) (r ∷ p) (turned p))
-      ∙ ap (cond (turns (r ∷ p)) (is Pde (r ∷ p))) (down_is p (clean-tail C r p h))
-      ∙ go (cke p) r.cke (eqb r.pins 1) (leb 7 r.pins) (asleep p) (eqb r.step 0) (by_pins r.pins) (no-entry r.pins) (not-bad C r p h)
+      sym (push (is Pde) (changes (r ∷ p)) (r ∷ p) (turned p))
+      ∙ ap (cond (changes (r ∷ p)) (is Pde (r ∷ p))) (down_is p (clean-tail C r p h))
+      ∙ go (cke p) r.cke (eqb r.pins 1) (leb 7 r.pins) (asleep p) (by_pins r.pins) (not-bad C r p h)
     where
-      go : (b k x y s z : Bool) (c : Command) → is_a Pde c ≡ false
+      go : (b k x y s : Bool) (c : Command)
           → is_a Bad (cond b (cond k c (cond x Sre (cond y Pde Bad))) (cond k (cond y (cond s Srx Pdx) Bad) Low)) ≡ false
-          → cond (cond b (not k) k || k && z) (is_a Pde (cond b (cond k c (cond x Sre (cond y Pde Bad))) (cond k (cond y (cond s Srx Pdx) Bad) Low))) (not (b || s))
+          → cond (cond b (not k) k) (is_a Pde (cond b (cond k c (cond x Sre (cond y Pde Bad))) (cond k (cond y (cond s Srx Pdx) Bad) Low))) (not (b || s))
           ≡ not (k || cond k false (cond b x s))
-      go true true x y s true c f g = f
-      go true true x y s false c f g = refl
-      go true false true y s z c f g = refl
-      go true false false true s z c f g = refl
-      go true false false false s z c f g = never refl g
-      go false true x true true z c f g = refl
-      go false true x true false z c f g = refl
-      go false true x false s z c f g = refl
-      go false false x y s z c f g = refl
-
--- CKE does not turn, and so does not change
-pub no_change : (r : Record) (p : Past) → turns (r ∷ p) ≡ false → changes (r ∷ p) ≡ false
-no_change r p h = neither (changes (r ∷ p)) (rises (r ∷ p)) h
-  where
-    neither : (a b : Bool) → a || b ≡ false → a ≡ false
-    neither true b e = e
-    neither false b e = refl
+      go true true x y s c g = refl
+      go true false true y s c g = refl
+      go true false false true s c g = refl
+      go true false false false s c g = never refl g
+      go false true x true true c g = refl
+      go false true x true false c g = refl
+      go false true x false s c g = refl
+      go false false x y s c g = refl
 
 -- while CKE stays low
 pub low-is : (r : Record) (p : Past) → cke p ≡ false → changes (r ∷ p) ≡ false → command (r ∷ p) ≡ Low
@@ -110,12 +84,12 @@ module _ (C : Chip) where
   still-touched : (b : ℕ) (p : Past) → Clean C p → down p ≡ true → latest (touches b) (turned p) ≡ latest (touches b) p
   still-touched b [] h y = refl
   still-touched b (r ∷ p) h y = ⊎_elim
-      (λ (c : turns (r ∷ p) ≡ true). rw c)
-      (λ (n : turns (r ∷ p) ≡ false).
+      (λ (c : changes (r ∷ p) ≡ true). rw c)
+      (λ (n : changes (r ∷ p) ≡ false).
       let d : down p ≡ true = rw n at y in
       let l = low-in p (clean-tail C r p h) d in
-      rw (n, low-still b r p l.0 (no_change r p n)) (still-touched b p (clean-tail C r p h) d))
-      (decide (turns (r ∷ p)))
+      rw (n, low-still b r p l.0 n) (still-touched b p (clean-tail C r p h) d))
+      (decide (changes (r ∷ p)))
 
   pub open_at : (b : ℕ) (p : Past) → Clean C p → down p ≡ true
       → is_open (status C b (turned p) (edge (turned p))) ≡ ltb (kept C p b).shut.num (kept C p b).acted.num

@@ -1,11 +1,10 @@
 -- The edges of a recording one by one, with one record more: what a later record leaves as it was, the edges of a gap, and the edge of
 -- a record.
 -- Assumes nothing.
-use Rattle.records.specs.Command.{command_of, by_pins}
 use Prim.Native.Nat.{ℕ, zero, suc, ◌+◌, ◌-◌, ◌≤◌, ◌<◌}
 use native.Mathlib.Omega.{arith}
 use native.Mathlib.Decide.{dec_lt, ℕ_discrete}
-use mathlib.Core.Path.{◌≡◌, refl, sym, ap, ◌∙◌, subst}
+use mathlib.Core.Path.{◌≡◌, refl, sym, ap, ◌∙◌}
 use mathlib.Core.Logic.{⊎_elim}
 use mathlib.Core.Bool.{Bool, true, false, cond}
 use mathlib.Core.List.{[], ◌∷◌}
@@ -20,26 +19,20 @@ use Rattle.running.specs.declared.Late.{Late}
 use Rattle.running.specs.Late.{why}
 use Rattle.running.specs.Deadlines.{owing}
 use Rattle.running.specs.Said.{late_at}
-use Rattle.rules.specs.Past.{Past, edge, number, changes, asleep, is, latest, up_to, rise, turns}
+use Rattle.rules.specs.Past.{Past, edge, number, changes, asleep, is, latest, up_to}
 use Rattle.answers.specs.Answer.{or_else, lowest}
 use Rattle.rules.specs.Banks.{status}
-use Rattle.rules.specs.Rules.{checks, change_checks, exit_checks, order_checks, break_at}
+use Rattle.rules.specs.Rules.{checks, change_checks, exit_checks, break_at}
 use Rattle.rules.specs.Deadlines.{late, stayed, parted, rule24, rule25, rule28, rule31, awake_to, awake_at, owed_to, owed_at, since_ref}
 use Rattle.rules.specs.Verdict.{clean, stop, keep, told, record_says, broken_at, verdict_to, Apart}
 use Rattle.rules.specs.Down.{turned, down}
 use Rattle.rules.proofs.Generic.{decide, broken-fine}
 use Rattle.rules.proofs.UpTo.{up-to-all, up-to-skip, up-to-before, up_to_zero}
-use Rattle.rules.proofs.Numbered.{keep-clean, keep-none, told-clean, told-both, in_order, by_number, record-after}
-use Rattle.rules.proofs.Rising.{rise-is, still-step, rise-clean}
+use Rattle.rules.proofs.Numbered.{keep-clean, told-clean, told-both, in_order, by_number, record-after}
 use Rattle.rules.proofs.Clean.{broken, Clean}
 use Rattle.rules.proofs.Debts.{gap_to, owed-now, since_at, gap_step}
 use Rattle.rules.proofs.Sense.{verdict-next, skip-to, stays-to, clean-edges, clean-iff}
 use Rattle.rules.proofs.Gap.{Due, now24, now25, now28, now31, now_any, late24-at, late25-at, late28-at, late31-at}
-
--- at the rise no interval has begun
-pub owed-rise : (T : ℕ) → owed_to T (rise ∷ []) ≡ 8
-unfolding owed_to awake_at awake_to asleep command_of by_pins
-owed-rise T = omega arith
 
 module _ (C : Chip) where
   -- ── A later record ────────────────────────────────────────────────────────────────────────
@@ -57,13 +50,13 @@ module _ (C : Chip) where
     parted-same : (s : ℕ) → 0 < s → s < edge (r ∷ p) → rule31 C (r ∷ p) s ≡ rule31 C p s
     parted-same s a l = ap (λ u. parted C.nine u s) (up-to-skip (s - 1) r p (omega arith))
 
-    pub broken-same : (s : ℕ) → 0 < s → s < edge (r ∷ p) → broken_at C (r ∷ p) s ≡ broken_at C p s
+    broken-same : (s : ℕ) → 0 < s → s < edge (r ∷ p) → broken_at C (r ∷ p) s ≡ broken_at C p s
     broken-same s a l =
         by_number C (r ∷ p) s
         ∙ rw (ne_eqb (edge (r ∷ p)) s (λ e. omega arith))
         (λ i. in_order (record_says (break_at (checks C)) p s) (told s 0 (late-same s a l i)) (told s 0 (owed_same s l i))
         (record_says (break_at (change_checks C)) p s) (told s 0 (stay-same s a l i)) (record_says (break_at (exit_checks C)) p s)
-        (told s 0 (parted-same s a l i)) (record_says (break_at (order_checks C)) p s))
+        (told s 0 (parted-same s a l i)))
         ∙ sym (by_number C p s)
 
     -- the edges before it are as they were
@@ -76,15 +69,12 @@ module _ (C : Chip) where
   records-clean : (p : Past) → Apart p → ((s : ℕ) → 0 < s → s ≤ edge p → broken_at C p s ≡ clean) → Clean C p
   unfolding or_else
   records-clean [] a h = refl
-  records-clean (r ∷ p) a h = ⊎_elim
-      (λ (far : 1 ≤ r.step).
+  records-clean (r ∷ p) a h =
       let e = edge (r ∷ p) in
       let w = (keep-clean _ _ (sym (by_number C (r ∷ p) e) ∙ h e (omega arith) (omega arith))).0 in
       let now : break_at (checks C) r p ≡ Fine = told-clean e (number (r ∷ p)) _ (rw (eq-eqb (edge (r ∷ p)) (edge (r ∷ p)) refl) at w) in
       let old : broken C p ≡ Fine = records-clean p a.1 (λ s x y. sym (broken-same r p s x (omega arith)) ∙ h s x (omega arith)) in
-      rw (old, now))
-      (λ w. subst (Clean C) (rise-is w) (rise-clean C))
-      a.0
+      rw (old, now)
 
   pub clean-past : (p : Past) → Apart p → verdict_to C p (edge p) ≡ clean → Clean C p
   clean-past p apart z = records-clean p apart (clean-edges C p (edge p) z)
@@ -142,9 +132,7 @@ module _ (C : Chip) where
   only-late z q p t l h g f =
       by_number C q t
       ∙ (λ i. in_order (f (break_at (checks C)) i) (told t 0 (late24-at C p q t l h i)) (told t 0 (late25-at C p z q t g i))
-      (f (break_at (change_checks C)) i) (told t 0 (late28-at C p q t h i)) (f (break_at (exit_checks C)) i) (told t 0 (late31-at C p q t h i))
-      (f (break_at (order_checks C)) i))
-      ∙ ap (λ v. keep (told t 0 (now24 C p t)) (keep (told t 0 (now25 C p t)) (keep (told t 0 (now28 C p t)) v))) (keep-none (told t 0 (now31 C p t)))
+      (f (break_at (change_checks C)) i) (told t 0 (late28-at C p q t h i)) (f (break_at (exit_checks C)) i) (told t 0 (late31-at C p q t h i)))
       ∙ sym (told-four t (now24 C p t) (now25 C p t) (now28 C p t) (now31 C p t))
 
   pub late-after : 0 < C.trefi → (p : Past) (t : ℕ) → edge p < t → broken_at C p t ≡ told t 0 (now_any C p t)
@@ -167,10 +155,7 @@ module _ (C : Chip) where
   -- at an edge at which nothing is broken at most 16 are owed
   pub small-owed-at : 0 < C.trefi → (p : Past) → Apart p → (u : ℕ) → (0 < u → broken_at C p u ≡ clean) → owed_at C.trefi (up_to u p) u ≤ 16
   unfolding owed_to
-  small-owed-at z p a zero h = ⊎_elim
-      (λ (e : up_to 0 p ≡ []). rw e (omega (arith, owed-now z [])))
-      (λ (e : up_to 0 p ≡ rise ∷ []). rw e (omega (arith, owed-now z (rise ∷ []), owed-rise C.trefi)))
-      (up_to_zero p a)
+  small-owed-at z p a zero h = rw (up_to_zero p a) (omega (arith, owed-now z []))
   small-owed-at z p a (suc u) h =
       let w = (keep-clean _ _ (keep-clean _ _ (keep-clean _ _ (sym (by_number C p (suc u)) ∙ h (omega arith))).1).1).0 in
       let fine = told-clean (suc u) 0 (rule25 C p (suc u)) w in
@@ -194,7 +179,6 @@ module _ (C : Chip) where
       (told (edge (r ∷ p)) 0 (owing (owed_to C.trefi (r ∷ p)) (number (latest (is Ref) (r ∷ p)))))
       (told (edge (r ∷ p)) (number (r ∷ p)) (break_at (change_checks C) r p)) (told (edge (r ∷ p)) 0 (now28 C p (edge (r ∷ p))))
       (told (edge (r ∷ p)) (number (r ∷ p)) (break_at (exit_checks C) r p)) (told (edge (r ∷ p)) 0 (now31 C p (edge (r ∷ p))))
-      (told (edge (r ∷ p)) (number (r ∷ p)) (break_at (order_checks C) r p))
   at-record z r p far =
       let e = edge (r ∷ p) in
       by_number C (r ∷ p) e
@@ -203,14 +187,14 @@ module _ (C : Chip) where
       (told e 0 (late24-at C p (r ∷ p) e (omega arith) (up-to-before r p e (omega arith) (omega arith)) i)) (told e 0 (owing-now z (r ∷ p) i))
       (told e (number (r ∷ p)) (break_at (change_checks C) r p))
       (told e 0 (late28-at C p (r ∷ p) e (up-to-before r p e (omega arith) (omega arith)) i)) (told e (number (r ∷ p)) (break_at (exit_checks C) r p))
-      (told e 0 (late31-at C p (r ∷ p) e (up-to-before r p e (omega arith) (omega arith)) i)) (told e (number (r ∷ p)) (break_at (order_checks C) r p)))
+      (told e 0 (late31-at C p (r ∷ p) e (up-to-before r p e (omega arith) (omega arith)) i)))
 
   -- ── Since the last REF ────────────────────────────────────────────────────────────────────
 
   fine31 : (p : Past) (u : ℕ) → broken_at C p u ≡ clean → rule31 C p u ≡ Fine
   fine31 p u k =
       let b = (keep-clean _ _ (keep-clean _ _ (keep-clean _ _ (sym (by_number C p u) ∙ k)).1).1).1 in
-      told-clean u 0 (rule31 C p u) (keep-clean _ _ (keep-clean _ _ (keep-clean _ _ (keep-clean _ _ b).1).1).1).0
+      told-clean u 0 (rule31 C p u) (keep-clean _ _ (keep-clean _ _ (keep-clean _ _ b).1).1).1
 
   not-parted : (p : Past) (t : ℕ) → now31 C p t ≡ Fine → since_ref p t ≤ C.nine
   not-parted p t w = ⊎_elim
@@ -235,22 +219,21 @@ module _ (C : Chip) where
       go false true g s o = omega arith
       go false false g s o = omega arith
 
-  -- at an edge at which nothing is broken the last REF is not too far back: of the rise, of a record more, of all
-  near-rise : (u : ℕ) → (0 < u → broken_at C (rise ∷ []) u ≡ clean) → since_ref (up_to u (rise ∷ [])) u ≤ C.nine
+  -- at an edge at which nothing is broken the last REF is not too far back
+  pub near-ref-at : (p : Past) → Apart p → (u : ℕ) → (0 < u → broken_at C p u ≡ clean) → since_ref (up_to u p) u ≤ C.nine
   unfolding since_ref awake_at awake_to asleep
-  near-rise u h = rw (up-to-all u (rise ∷ []) (omega arith)) (elim (dec_lt 0 u) [
-    | yes l ↦ not-parted (rise ∷ []) u (sym (late31-at C (rise ∷ []) (rise ∷ []) u (up-to-all (u - 1) (rise ∷ []) (omega arith))) ∙ fine31 (rise ∷ []) u (h l))
+  near-ref-at [] a u h = elim (dec_lt 0 u) [
+    | yes l ↦ not-parted [] u (fine31 [] u (h l))
     | no l ↦ omega arith
-  ])
-
-  near-record :
-      (r : Record) (p : Past) → 1 ≤ r.step → (u : ℕ) → (0 < u → broken_at C (r ∷ p) u ≡ clean)
-      → ((0 < u → broken_at C p u ≡ clean) → since_ref (up_to u p) u ≤ C.nine) → since_ref (up_to u (r ∷ p)) u ≤ C.nine
-  near-record r p far u h old = ⊎_elim
+  ]
+  near-ref-at (r ∷ p) a u h = ⊎_elim
       (λ (y : leb (edge (r ∷ p)) u ≡ true). rw y (here (leb-true (edge (r ∷ p)) u y)))
-      (λ (n : leb (edge (r ∷ p)) u ≡ false). rw n (old (λ l. sym (broken-same r p u l (leb-false (edge (r ∷ p)) u n)) ∙ h l)))
+      (λ (n : leb (edge (r ∷ p)) u ≡ false). rw n (near-ref-at p a.1 u (λ l. sym (broken-same r p u l (leb-false (edge (r ∷ p)) u n)) ∙ h l)))
       (decide (leb (edge (r ∷ p)) u))
     where
+      far : 1 ≤ r.step
+      far = a.0
+
       here : edge (r ∷ p) ≤ u → since_ref (r ∷ p) u ≤ C.nine
       here l =
           let w = fine31 (r ∷ p) u (h (omega arith)) in
@@ -264,17 +247,6 @@ module _ (C : Chip) where
             | no q ↦ not-parted (r ∷ p) u (sym (late31-at C (r ∷ p) (r ∷ p) u (up-to-all (u - 1) (r ∷ p) (omega arith))) ∙ w)
           ]
 
-  pub near-ref-at : (p : Past) → Apart p → (u : ℕ) → (0 < u → broken_at C p u ≡ clean) → since_ref (up_to u p) u ≤ C.nine
-  unfolding since_ref awake_at awake_to asleep
-  near-ref-at [] a u h = elim (dec_lt 0 u) [
-    | yes l ↦ not-parted [] u (fine31 [] u (h l))
-    | no l ↦ omega arith
-  ]
-  near-ref-at (r ∷ p) a u h = ⊎_elim
-      (λ far. near-record r p far u h (near-ref-at p a.1 u))
-      (λ w. subst (λ q. (0 < u → broken_at C q u ≡ clean) → since_ref (up_to u q) u ≤ C.nine) (rise-is w) (near-rise u) h)
-      a.0
-
   -- so after a clean past
   pub near-ref : (p : Past) → Apart p → verdict_to C p (edge p) ≡ clean → gap_to p ≤ C.nine
   near-ref p a h =
@@ -286,20 +258,20 @@ module _ (C : Chip) where
   pub near-stay : (p : Past) → Apart p → verdict_to C p (edge p) ≡ clean → down p ≡ true → edge p ≤ edge (turned p) + C.nine
   near-stay [] a h y = omega arith
   near-stay (r ∷ p) a h y = ⊎_elim
-      (λ (c : turns (r ∷ p) ≡ true). rw c (omega arith))
-      (λ (n : turns (r ∷ p) ≡ false).
+      (λ (c : changes (r ∷ p) ≡ true). rw c (omega arith))
+      (λ (n : changes (r ∷ p) ≡ false).
       let d : down p ≡ true = rw n at y in
-      let far : 1 ≤ r.step = still-step r p a n in
+      let far : 1 ≤ r.step = a.0 in
       let old : verdict_to C p (edge p) ≡ clean = sym (verdict-same r p (edge p) (omega arith)) ∙ (clean-iff C (r ∷ p) (edge p)).1 (λ s u v. clean-edges C (r ∷ p) (edge (r ∷ p)) h s u (omega arith)) in
       let l = near-stay p a.1 old d in
       rw n (elim (dec_lt (edge (turned p) + C.nine) (edge (r ∷ p))) [
-        | yes m ↦ absurd (passed far d l m)
+        | yes m ↦ absurd (passed n d l m)
         | no m ↦ omega arith
       ]))
-      (decide (turns (r ∷ p)))
+      (decide (changes (r ∷ p)))
     where
-      passed : 1 ≤ r.step → down p ≡ true → edge p ≤ edge (turned p) + C.nine → edge (turned p) + C.nine < edge (r ∷ p) → ⊥
-      passed far d l m =
+      passed : changes (r ∷ p) ≡ false → down p ≡ true → edge p ≤ edge (turned p) + C.nine → edge (turned p) + C.nine < edge (r ∷ p) → ⊥
+      passed n d l m =
           let t = edge (turned p) + C.nine + 1 in
           let k = clean-edges C (r ∷ p) (edge (r ∷ p)) h t (omega arith) (omega arith) in
           let w = (keep-clean _ _ (keep-clean _ _ (keep-clean _ _ (keep-clean _ _ (sym (by_number C (r ∷ p) t) ∙ k)).1).1).1).1 in

@@ -2,7 +2,6 @@ pub mod Generic
 pub mod Events
 pub mod Sleeping
 pub mod Clean
-pub mod Rising
 pub mod Starts
 pub mod Facts
 pub mod Fits
@@ -24,7 +23,6 @@ pub mod InTheWay
 pub mod Agree
 pub mod Changing
 pub mod Numbered
-pub mod Till
 pub mod Sense
 pub mod UpTo
 pub mod Gap
@@ -32,4 +30,3 @@ pub mod Edges
 pub mod Turn
 pub mod Closing
 pub mod Cutting
-pub mod Lines

@@ -14,7 +14,7 @@ use Rattle.answers.specs.Answer.{or_else}
 use Rattle.records.specs.declared.Record.{Record}
 use Rattle.chip.specs.declared.Chip.{Chip}
 use Rattle.rules.specs.Past.{Past, edge, number}
-use Rattle.rules.specs.Rules.{checks, change_checks, exit_checks, order_checks, break_at}
+use Rattle.rules.specs.Rules.{checks, change_checks, exit_checks, break_at}
 use Rattle.rules.specs.Deadlines.{rule24, rule25, rule28, rule31}
 use Rattle.rules.specs.Verdict.{Outcome, clean, stop, keep, told, Check, of_record, deadline, record_says, check_says, first_of, of_records, edge_checks, broken_at}
 use Rattle.rules.proofs.Generic.{decide}
@@ -75,31 +75,29 @@ run_of (f ∷ fs) cs p t =
     ∙ keep-keep (record_says f p t) (record_says (break_at fs) p t) (first_of cs p t)
     ∙ ap (λ v. keep v (first_of cs p t)) (sym (run-two f (break_at fs) p t))
 
--- what is said behind the first two deadlines: 26 and 27 at once, then 28, then 29 and 30 at once, then 31, then 32
-abbrev pub behind : (c d e g o : Outcome) → Outcome
-behind c d e g o = keep c (keep d (keep e (keep g o)))
+-- what is said behind the first two deadlines: 26 and 27 at once, then 28, then 29 and 30 at once, then 31
+abbrev pub behind : (c d e g : Outcome) → Outcome
+behind c d e g = keep c (keep d (keep e g))
 
 -- by number: rules 1 to 23 at once, 24, 25, and those behind them
-abbrev pub in_order : (a x y c d e g o : Outcome) → Outcome
-in_order a x y c d e g o = keep a (keep x (keep y (behind c d e g o)))
+abbrev pub in_order : (a x y c d e g : Outcome) → Outcome
+in_order a x y c d e g = keep a (keep x (keep y (behind c d e g)))
 
 pub by_number : (C : Chip) (p : Past) (t : ℕ)
     → broken_at C p t
     ≡ in_order (record_says (break_at (checks C)) p t) (told t 0 (rule24 C p t)) (told t 0 (rule25 C p t))
     (record_says (break_at (change_checks C)) p t) (told t 0 (rule28 C p t)) (record_says (break_at (exit_checks C)) p t) (told t 0 (rule31 C p t))
-    (record_says (break_at (order_checks C)) p t)
 unfolding broken_at
 by_number C p t =
     run_of (checks C) (deadline (rule24 C) ∷ deadline (rule25 C) ∷ of_records (change_checks C) rest) p t
     ∙ ap (λ v. keep (record_says (break_at (checks C)) p t) (keep (told t 0 (rule24 C p t)) (keep (told t 0 (rule25 C p t)) v)))
     (run_of (change_checks C) rest p t
     ∙ ap (λ v. keep (record_says (break_at (change_checks C)) p t) (keep (told t 0 (rule28 C p t)) v))
-    (run_of (exit_checks C) (deadline (rule31 C) ∷ of_records (order_checks C) []) p t
-    ∙ ap (λ v. keep (record_says (break_at (exit_checks C)) p t) (keep (told t 0 (rule31 C p t)) v))
-    (run_of (order_checks C) [] p t ∙ keep-none (record_says (break_at (order_checks C)) p t))))
+    (run_of (exit_checks C) (deadline (rule31 C) ∷ []) p t
+    ∙ ap (keep (record_says (break_at (exit_checks C)) p t)) (keep-none (told t 0 (rule31 C p t)))))
   where
     rest : List Check
-    rest = deadline (rule28 C) ∷ of_records (exit_checks C) (deadline (rule31 C) ∷ of_records (order_checks C) [])
+    rest = deadline (rule28 C) ∷ of_records (exit_checks C) (deadline (rule31 C) ∷ [])
 
 -- after the latest record no record breaks a rule
 pub record-after : (f : Record → Past → Break) (p : Past) (t : ℕ) → edge p < t → record_says f p t ≡ clean

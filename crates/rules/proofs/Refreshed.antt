@@ -17,7 +17,7 @@ use Rattle.records.specs.declared.Command.{Command}
 use Rattle.records.specs.declared.Command.TheVariants.{Ref, Act, Wr, Rd, Sre, Srx, Low, Bad, Pde, Pdx}
 use Rattle.records.specs.Command.{by_pins, falling, rising, command_of, is_a, a10}
 use Rattle.chip.specs.declared.Chip.{Chip}
-use Rattle.rules.specs.Past.{Past, edge, cke, changes, asleep, command, is, on, latest, turns}
+use Rattle.rules.specs.Past.{Past, edge, cke, changes, asleep, command, is, on, latest}
 use Rattle.rules.specs.Banks.{act_on, closes, touches, open_by, closing_by, is_idle, is_open, start, seen, status}
 use Rattle.rules.specs.Rules.{concerns, may}
 use Rattle.rules.specs.Down.{turned, down}
@@ -27,8 +27,7 @@ use Rattle.rules.proofs.Events.{never}
 use Rattle.rules.proofs.Clean.{Clean, clean-tail, not-bad, allowed, is-command, is-other, ClosedBy, by-pre, by-rd, by-wr, closing-by}
 use Rattle.rules.proofs.Sleeping.{high-awake, sleeps-on}
 use Rattle.rules.proofs.Starts.{start-pre}
-use Rattle.rules.proofs.Rising.{has-step, turns-changes}
-use Rattle.rules.proofs.Down.{no_change, low-is, low-in}
+use Rattle.rules.proofs.Down.{low-is, low-in}
 use Rattle.rules.proofs.Debts.{gap_to, gap_step}
 
 -- since the event s no REF came, one awake clock at least had passed before it since the last, and the part is awake
@@ -56,19 +55,17 @@ module _ (C : Chip) where
   pub down-unrefreshed : (p : Past) → Apart p → Clean C p → down p ≡ true → Unrefreshed p (turned p)
   down-unrefreshed [] apart h y = never y refl
   down-unrefreshed (r ∷ p) apart h y = ⊎_elim
-      (λ (c : turns (r ∷ p) ≡ true).
+      (λ (c : changes (r ∷ p) ≡ true).
       let pde : is Pde (r ∷ p) ≡ true = rw c at y in
       let l = low-in C (r ∷ p) h y in
-      let far = has-step Pde (λ z. omega arith) r p apart pde in
-      let falls : changes (r ∷ p) ≡ true = sym (turns-changes r p far) ∙ c in
-      rw c (began r p far (is-other Pde Ref (r ∷ p) (λ z. omega arith) pde) (high-awake p (fell (cke p) r.cke falls l.0)) l.1))
-      (λ (n : turns (r ∷ p) ≡ false).
+      rw c (began r p apart.0 (is-other Pde Ref (r ∷ p) (λ z. omega arith) pde) (high-awake p (fell (cke p) r.cke c l.0)) l.1))
+      (λ (n : changes (r ∷ p) ≡ false).
       let d : down p ≡ true = rw n at y in
       let k = clean-tail C r p h in
       let l = low-in C p k d in
-      let low : command (r ∷ p) ≡ Low = low-is r p l.0 (no_change r p n) in
+      let low : command (r ∷ p) ≡ Low = low-is r p l.0 n in
       rw n (goes_on r p (turned p) (rw low) (low-in C (r ∷ p) h y).1 (down-unrefreshed p apart.1 k d)))
-      (decide (turns (r ∷ p)))
+      (decide (changes (r ∷ p)))
 
   -- ── A bank that is not idle ───────────────────────────────────────────────────────────────
 
@@ -147,7 +144,7 @@ module _ (C : Chip) where
       (λ (y : act_on b (r ∷ p) ≡ true).
       let act = (both (is Act (r ∷ p)) (on b (r ∷ p)) y).0 in
       let high = act-high r p act in
-      rw y (began r p (has-step Act (λ z. omega arith) r p apart act) (is-other Act Ref (r ∷ p) (λ z. omega arith) act) (high-awake p high.0) (high-awake (r ∷ p) high.1)))
+      rw y (began r p apart.0 (is-other Act Ref (r ∷ p) (λ z. omega arith) act) (high-awake p high.0) (high-awake (r ∷ p) high.1)))
       (λ (n : act_on b (r ∷ p) ≡ false).
       let k = clean-tail C r p h in
       let was : is_idle (status C b p (edge (r ∷ p))) ≡ false = before n in

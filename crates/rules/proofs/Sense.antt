@@ -1,7 +1,6 @@
 -- What the verdict means, so that a reader need not trust a recursion: clean exactly when no edge up to the end is broken; else the
 -- earliest broken edge. And of one row: the partner is the latest earlier record that breaks it, with the clocks of that pair.
 -- Assumes nothing.
-use Rattle.rules.proofs.Till.{till-next, till-clean, till-stays, till-edges}
 use Prim.Native.Nat.{ℕ, zero, suc, ◌+◌, ◌-◌, ◌≤◌, ◌<◌}
 use native.Mathlib.Omega.{arith}
 use native.Mathlib.Decide.{dec_lt, ℕ_discrete}
@@ -24,21 +23,47 @@ use Rattle.rules.proofs.Numbered.{stop-clean, keep-clean, broken-at}
 module _ (C : Chip) (q : Past) where
   pub verdict-next : (t : ℕ) → 0 < t → verdict_to C q t ≡ keep (verdict_to C q (t - 1)) (broken_at C q t)
   unfolding verdict_to
-  verdict-next = till-next (broken_at C q)
+  verdict-next zero l = absurd (omega arith)
+  verdict-next (suc t) l =
+      let e : t ≡ suc t - 1 = omega arith in
+      ap (λ u. keep (verdict_to C q u) (broken_at C q (suc t))) e
 
-  -- nothing broken after lo
+  -- nothing Broken after lo
+  skip : (n lo : ℕ) → ((s : ℕ) → lo < s → s ≤ lo + n → broken_at C q s ≡ clean) → verdict_to C q lo ≡ clean → verdict_to C q (lo + n) ≡ clean
+  unfolding keep
+  skip zero lo h z = let e : lo + 0 ≡ lo = omega arith in ap (verdict_to C q) e ∙ z
+  skip (suc n) lo h z =
+      let e : lo + suc n - 1 ≡ lo + n = omega arith in
+      verdict-next (lo + suc n) (omega arith)
+      ∙ ap (λ u. keep (verdict_to C q u) (broken_at C q (lo + suc n))) e
+      ∙ ap (λ v. keep v (broken_at C q (lo + suc n))) (skip n lo (λ s a b. h s a (omega arith)) z)
+      ∙ h (lo + suc n) (omega arith) (omega arith)
+
   pub skip-to : (lo t : ℕ) → lo ≤ t → ((s : ℕ) → lo < s → s ≤ t → broken_at C q s ≡ clean) → verdict_to C q lo ≡ clean → verdict_to C q t ≡ clean
-  unfolding verdict_to
-  skip-to = till-clean (broken_at C q)
+  skip-to lo t l h z = let e : t ≡ lo + (t - lo) = omega arith in ap (verdict_to C q) e ∙ skip (t - lo) lo (λ s a b. h s a (omega arith)) z
 
-  -- what was broken first stays so
+  -- what was Broken first stays so
+  stays : (n t w m : ℕ) (b : Break) → verdict_to C q t ≡ stop w m b → verdict_to C q (t + n) ≡ stop w m b
+  unfolding keep
+  stays zero t w m b z = let e : t + 0 ≡ t = omega arith in ap (verdict_to C q) e ∙ z
+  stays (suc n) t w m b z =
+      let e : t + suc n - 1 ≡ t + n = omega arith in
+      verdict-next (t + suc n) (omega arith)
+      ∙ ap (λ u. keep (verdict_to C q u) (broken_at C q (t + suc n))) e
+      ∙ ap (λ v. keep v (broken_at C q (t + suc n))) (stays n t w m b z)
+
   pub stays-to : (t u w m : ℕ) (b : Break) → t ≤ u → verdict_to C q t ≡ stop w m b → verdict_to C q u ≡ stop w m b
-  unfolding verdict_to
-  stays-to = till-stays (broken_at C q)
+  stays-to t u w m b l z = let e : u ≡ t + (u - t) = omega arith in ap (verdict_to C q) e ∙ stays (u - t) t w m b z
 
   pub clean-edges : (t : ℕ) → verdict_to C q t ≡ clean → (s : ℕ) → 0 < s → s ≤ t → broken_at C q s ≡ clean
   unfolding verdict_to
-  clean-edges = till-edges (broken_at C q)
+  clean-edges zero h s a b = absurd (omega arith)
+  clean-edges (suc t) h s a b =
+      let w = keep-clean (verdict_to C q t) _ h in
+      elim (ℕ_discrete s (suc t)) [
+        | yes e ↦ subst (λ u. broken_at C q u ≡ clean) (sym e) w.1
+        | no e ↦ clean-edges t w.0 s a (omega arith)
+      ]
 
   -- where the verdict stops
   pub stop-at : (u t n : ℕ) (b : Break) → verdict_to C q u ≡ stop t n b → (t ≤ u) × (verdict_to C q t ≡ stop t n b)

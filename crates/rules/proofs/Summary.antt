@@ -18,7 +18,7 @@ use Rattle.running.specs.Marks.{none}
 use Rattle.running.specs.declared.Rank.{Rank}
 use Rattle.running.specs.Said.{no_verdict}
 use Rattle.running.specs.Next as running
-use Rattle.rules.specs.Past.{Past, edge, number, cke, rises, is, address_of, on, latest, back, has, greatest}
+use Rattle.rules.specs.Past.{Past, edge, number, cke, is, address_of, on, latest, back, has, greatest}
 use Rattle.rules.specs.Registers.{mrs_to, dll_reset, regs}
 use Rattle.rules.specs.Banks.{act_on, closes, shuts, start}
 use Rattle.rules.specs.Down.{turned, slow_exit}
@@ -87,7 +87,6 @@ module _ (C : Chip) where
         tuned = mark (need18 C) (latest (is Zq) p);
         reset = mark (λ _. 512) (latest (λ s. dll_reset s || is Srx s) p);
         woke = mark (λ _. C.txs) (latest (is Srx) p);
-        risen = mark (λ _. C.txs) (latest rises p);
         slept = mark (λ _. C.tcke + 1) (latest (is Sre) p);
         turned = mark (λ _. C.tcke) (turned p);
         left = mark (λ _. C.txp) (latest (is Pdx) p);

@@ -48,11 +48,11 @@ passing x e = cond (ltb x.at e) (stop x.at 0 (why x)) clean
 said-first : (e n : ℕ) (b : Break) {w : Verdict} (v : Outcome) → w ≡ said v → first (verdict_at e n b) w ≡ said (keep (told e n b) v)
 said-first e n b v h = (λ i. first (told-said e n b i) (h i)) ∙ first_said (told e n b) v
 
--- by number: a the record's breaks of rules 1 to 23, x and y the deadlines 24 and 25, c 26 and 27, d the deadline 28, f 29 and 30, g the deadline 31, o 32
+-- by number: a the record's breaks of rules 1 to 23, x and y the deadlines 24 and 25, c 26 and 27, d the deadline 28, f 29 and 30, g the deadline 31
 pub said-in-order :
-    (e n : ℕ) (a x y c d f g o : Break)
+    (e n : ℕ) (a x y c d f g : Break)
     → first (verdict_at e n a) (first (verdict_at e 0 x) (first (verdict_at e 0 y) (first (verdict_at e n c) (first (verdict_at e 0 d)
-    (first (verdict_at e n f) (first (verdict_at e 0 g) (verdict_at e n o)))))))
-    ≡ said (in_order (told e n a) (told e 0 x) (told e 0 y) (told e n c) (told e 0 d) (told e n f) (told e 0 g) (told e n o))
-said-in-order e n a x y c d f g o =
-    said-first e n a _ (said-first e 0 x _ (said-first e 0 y _ (said-first e n c _ (said-first e 0 d _ (said-first e n f _ (said-first e 0 g _ (told-said e n o)))))))
+    (first (verdict_at e n f) (verdict_at e 0 g))))))
+    ≡ said (in_order (told e n a) (told e 0 x) (told e 0 y) (told e n c) (told e 0 d) (told e n f) (told e 0 g))
+said-in-order e n a x y c d f g =
+    said-first e n a _ (said-first e 0 x _ (said-first e 0 y _ (said-first e n c _ (said-first e 0 d _ (said-first e n f _ (told-said e 0 g))))))

@@ -2,14 +2,14 @@
 -- Assumes nothing.
 use Prim.Native.Nat.{ℕ, ◌-◌, ◌≤◌, ◌<◌}
 use native.Mathlib.Omega.{arith}
-use mathlib.Core.Path.{◌≡◌, refl, ◌∙◌, sym, subst}
-use mathlib.Core.Logic.{⊎_elim, ◌⊎◌, inl, inr}
+use mathlib.Core.Path.{◌≡◌, refl, ◌∙◌}
+use mathlib.Core.Logic.{⊎_elim}
 use mathlib.Core.Bool.{true, false}
 use mathlib.Core.List.{[], ◌∷◌}
 use lib.Dec.{leb}
 use borrow.Author.Tests.{leb-true, le-leb, lt-leb}
 use Rattle.records.specs.declared.Record.{Record}
-use Rattle.rules.specs.Past.{Past, edge, up_to, rise}
+use Rattle.rules.specs.Past.{Past, edge, up_to}
 use Rattle.rules.specs.Verdict.{Apart}
 use Rattle.rules.proofs.Generic.{decide}
 
@@ -31,13 +31,10 @@ up-to-edge t (r ∷ p) = ⊎_elim
     (λ (n : leb (edge (r ∷ p)) t ≡ false). rw n (up-to-edge t p))
     (decide (leb (edge (r ∷ p)) t))
 
--- before edge 1 there is no record but the rise that begins a stretch
-pub up_to_zero : (p : Past) → Apart p → (up_to 0 p ≡ []) ⊎ (up_to 0 p ≡ rise ∷ [])
-up_to_zero [] a = inl refl
-up_to_zero (r ∷ p) a = ⊎_elim
-    (λ (far : 1 ≤ r.step). subst (λ q. (q ≡ []) ⊎ (q ≡ rise ∷ [])) (sym (up-to-skip 0 r p (omega arith))) (up_to_zero p a.1))
-    (λ (w : (r ≡ rise) × (p ≡ [])). inr (λ i. up_to 0 (w.0 i ∷ w.1 i)))
-    a.0
+-- before edge 1 there is no record
+pub up_to_zero : (p : Past) → Apart p → up_to 0 p ≡ []
+up_to_zero [] a = refl
+up_to_zero (r ∷ p) a = up-to-skip 0 r p (omega (arith, a.0)) ∙ up_to_zero p a.1
 
 pub apart-up-to : (t : ℕ) (p : Past) → Apart p → Apart (up_to t p)
 apart-up-to t [] a = a

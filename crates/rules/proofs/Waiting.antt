@@ -12,11 +12,11 @@ use Rattle.records.specs.declared.Command.TheVariants.{Mrs, Ref, Pre, Act, Wr, R
 use Rattle.chip.specs.declared.Chip.{Chip}
 use Rattle.running.specs.Marks.{needing, as10, as11, as13, as14, as19}
 use Rattle.running.specs.Waits.{ends, marks_for, wait_of}
-use Rattle.rules.specs.Past.{Past, edge, is, latest, back, greatest, rises}
+use Rattle.rules.specs.Past.{Past, edge, is, latest, back, greatest}
 use Rattle.rules.specs.Registers.{dll_reset}
 use Rattle.rules.specs.Banks.{act_on, closes, shuts, start}
 use Rattle.rules.specs.Down.{slow_exit}
-use Rattle.rules.specs.Rules.{r4, r6, r7, r9, r10, r11, r12r, r12w, r13, r14, r15, r16, r17, r18, r19, r20, r21, r29, r30, r21u}
+use Rattle.rules.specs.Rules.{r4, r6, r7, r9, r10, r11, r12r, r12w, r13, r14, r15, r16, r17, r18, r19, r20, r21, r29, r30}
 use Rattle.rules.specs.Waiting.{Ask, furthest, of_all, of_one, by, by_start, after_fourth, by_fourth, asks, wait, asked}
 use Rattle.rules.proofs.Generic.{constant-dominated}
 use Rattle.rules.proofs.Clean.{Clean}
@@ -103,9 +103,6 @@ module _ (C : Chip) (S : Sound C) (p : Past) (h : Clean C p) where
   ends21 : ends (mark (λ _. C.txs) (latest (is Srx) p)) ≡ furthest (by C r21 (is Srx)) p
   ends21 = itself C.txs (is Srx)
 
-  ends21u : ends (mark (λ _. C.txs) (latest rises p)) ≡ furthest (by C r21u rises) p
-  ends21u = itself C.txs rises
-
   ends29 : ends (mark (λ _. C.txp) (latest (is Pdx) p)) ≡ furthest (by C r29 (is Pdx)) p
   ends29 = itself C.txp (is Pdx)
 
@@ -116,17 +113,17 @@ module _ (C : Chip) (S : Sound C) (p : Past) (h : Clean C p) where
   pub waits-afresh : (c : Command) (b : ℕ) → b < 8 → wait_of C c (kept C p b) (shared C p) ≡ wait C c b p
   unfolding wait_of marks_for wait asks kept shared acts rests
   waits-afresh Act b l = λ i.
-      max (ends5 b l i) (max (ends6 b l i) (max (ends7 i) (max (ends8 i) (max (ends15 i) (max (ends17 i) (max (ends18 i) (max (ends21 i) (max (ends21u i) (max (ends29 i) 0)))))))))
+      max (ends5 b l i) (max (ends6 b l i) (max (ends7 i) (max (ends8 i) (max (ends15 i) (max (ends17 i) (max (ends18 i) (max (ends21 i) (max (ends29 i) 0))))))))
   waits-afresh Rd b l = λ i.
-      max (ends4 b l i) (max (ends12r i) (max (ends14 i) (max (ends15 i) (max (ends17 i) (max (ends18 i) (max (ends20 i) (max (ends21 i) (max (ends21u i) (max (ends29 i) (max (ends30 i) 0))))))))))
+      max (ends4 b l i) (max (ends12r i) (max (ends14 i) (max (ends15 i) (max (ends17 i) (max (ends18 i) (max (ends20 i) (max (ends21 i) (max (ends29 i) (max (ends30 i) 0)))))))))
   waits-afresh Wr b l = λ i.
-      max (ends4 b l i) (max (ends12w i) (max (ends13 i) (max (ends15 i) (max (ends17 i) (max (ends18 i) (max (ends21 i) (max (ends21u i) (max (ends29 i) 0))))))))
+      max (ends4 b l i) (max (ends12w i) (max (ends13 i) (max (ends15 i) (max (ends17 i) (max (ends18 i) (max (ends21 i) (max (ends29 i) 0)))))))
   waits-afresh Pre b l = λ i.
-      max (ends9 b l i) (max (ends10 b l i) (max (ends11 b l i) (max (ends15 i) (max (ends17 i) (max (ends18 i) (max (ends21 i) (max (ends21u i) (max (ends29 i) 0))))))))
-  waits-afresh Ref b l = λ i. max (ends5all i) (max (ends15 i) (max (ends17 i) (max (ends18 i) (max (ends21 i) (max (ends21u i) (max (ends29 i) 0))))))
-  waits-afresh Zq b l = λ i. max (ends5all i) (max (ends15 i) (max (ends17 i) (max (ends18 i) (max (ends21 i) (max (ends21u i) (max (ends29 i) 0))))))
-  waits-afresh Mrs b l = λ i. max (ends5all i) (max (ends15 i) (max (ends16 i) (max (ends18 i) (max (ends19 i) (max (ends21 i) (max (ends21u i) (max (ends29 i) 0)))))))
-  waits-afresh Sre b l = λ i. max (ends5all i) (max (ends15 i) (max (ends17 i) (max (ends18 i) (max (ends19 i) (max (ends21 i) (max (ends21u i) (max (ends29 i) 0)))))))
+      max (ends9 b l i) (max (ends10 b l i) (max (ends11 b l i) (max (ends15 i) (max (ends17 i) (max (ends18 i) (max (ends21 i) (max (ends29 i) 0)))))))
+  waits-afresh Ref b l = λ i. max (ends5all i) (max (ends15 i) (max (ends17 i) (max (ends18 i) (max (ends21 i) (max (ends29 i) 0)))))
+  waits-afresh Zq b l = λ i. max (ends5all i) (max (ends15 i) (max (ends17 i) (max (ends18 i) (max (ends21 i) (max (ends29 i) 0)))))
+  waits-afresh Mrs b l = λ i. max (ends5all i) (max (ends15 i) (max (ends16 i) (max (ends18 i) (max (ends19 i) (max (ends21 i) (max (ends29 i) 0))))))
+  waits-afresh Sre b l = λ i. max (ends5all i) (max (ends15 i) (max (ends17 i) (max (ends18 i) (max (ends19 i) (max (ends21 i) (max (ends29 i) 0))))))
   waits-afresh Nop b l = refl
   waits-afresh Des b l = refl
   waits-afresh Srx b l = refl

@@ -5,13 +5,13 @@ use Rattle.laws.specs.Any.{any_of}
 use Rattle.records.specs.declared.Command.TheVariants.{Pde, Pdx}
 use Rattle.codes.specs.Codes.{set}
 use Rattle.chip.specs.declared.Chip.{Chip}
-use Rattle.rules.specs.Past.{Past, edge, turns, is, latest}
+use Rattle.rules.specs.Past.{Past, edge, changes, is, latest}
 use Rattle.rules.specs.Registers.{mr}
 use Rattle.rules.specs.Banks.{is_open, status}
 
 -- the latest change of CKE, which is the entry of a part that is in power-down
 abbrev pub turned : Past → Past
-turned p = latest turns p
+turned p = latest changes p
 
 abbrev pub down : Past → Bool
 down p = is Pde (turned p)

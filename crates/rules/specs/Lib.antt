@@ -1,11 +1,9 @@
 pub mod Past
 pub mod Registers
-pub mod Order
 pub mod Banks
 pub mod Down
 pub mod Search
 pub mod Rules
 pub mod Deadlines
 pub mod Verdict
-pub mod Power
 pub mod Waiting

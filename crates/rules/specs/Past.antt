@@ -1,6 +1,6 @@
 -- A recording seen from one of its records: 01, "The recording", and the first paragraph of "Commands and the 25 rules".
 -- Assumes nothing.
-use Rattle.std.specs.Prelude.{ℕ, zero, suc, ◌+◌, ◌≤◌, ◌<◌, Bool, true, false, cond, not, ◌&&◌, ◌||◌, List, [], ◌∷◌, reverse, ◌≡◌, eqb, leb}
+use Rattle.std.specs.Prelude.{ℕ, zero, suc, ◌+◌, ◌≤◌, ◌<◌, Bool, true, false, cond, not, ◌||◌, List, [], ◌∷◌, reverse, ◌≡◌, eqb, leb}
 use Rattle.records.specs.declared.Record.{Record}
 use Rattle.records.specs.declared.Command.{Command}
 use Rattle.records.specs.declared.Command.TheVariants.{Wr, Rd, Nop}
@@ -38,24 +38,10 @@ abbrev pub cke : Past → Bool
 cke [] = true
 cke (r ∷ p) = r.cke
 
--- It is the rise of CKE that ends a reset: 02, Q-8. A stretch after a reset begins with it, at edge 0, so that it has no step. A record that was
--- recorded has one: refusal 6.
-abbrev pub rises : Past → Bool
-rises [] = false
-rises (r ∷ p) = r.cke && eqb r.step 0
-
--- the rise as a record: NOP or DES, with CKE high
-abbrev pub rise : Record
-rise = record { step = 0; cke = true; pins = 0b0111; bank = 0; a = 0 }
-
 -- CKE changes at it
 abbrev pub changes : Past → Bool
 changes [] = false
 changes (r ∷ p) = cond (cke p) (not r.cke) r.cke
-
--- what holds CKE at a level for t_cke: a change, or that rise
-abbrev pub turns : Past → Bool
-turns s = changes s || rises s
 
 -- the part is asleep after it: CKE fell with 0001, an SRE, and has not risen
 unfoldable pub asleep : Past → Bool

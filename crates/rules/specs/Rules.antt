@@ -1,19 +1,17 @@
--- The rules that a record breaks: 1 to 23 of 01, "Commands and the 25 rules", and the partners below it; 26, 27, 29 and 30 of 02, Q-1; 32 of Q-8.
+-- The rules that a record breaks: 1 to 23 of 01, "Commands and the 25 rules", and the partners below it; 26, 27, 29 and 30 of 02, Q-1.
 -- Assumes nothing.
 use Rattle.std.specs.Prelude.{ℕ, ◌+◌, ◌-◌, max, Bool, true, false, cond, not, ◌&&◌, ◌||◌, List, [], ◌∷◌}
 use Rattle.records.specs.declared.Record.{Record}
 use Rattle.records.specs.declared.Command.{Command}
 use Rattle.records.specs.declared.Command.TheVariants.{Mrs, Ref, Pre, Act, Wr, Rd, Zq, Nop, Des, Sre, Srx, Low, Bad, Pde, Pdx}
 use Rattle.records.specs.Command.{a10}
-use Rattle.header.specs.Counts.{zq_init}
 use Rattle.registers.specs.Allowed.{bad_bit, allowed}
 use Rattle.chip.specs.declared.Chip.{Chip}
 use Rattle.answers.specs.declared.Bank.{Bank}
 use Rattle.answers.specs.declared.Break.{Break}
 use Rattle.answers.specs.declared.Break.TheVariants.{Fine, Broken}
-use Rattle.rules.specs.Past.{Past, edge, number, rises, changes, turns, command, is, any_command, column, bank_of, on, a10_of, latest, back, has, greatest}
+use Rattle.rules.specs.Past.{Past, edge, number, changes, command, is, any_command, column, bank_of, on, a10_of, latest, back, has, greatest}
 use Rattle.rules.specs.Registers.{dll_reset, mr, al, cl, cwl, wr, rl, wl, h, b}
-use Rattle.rules.specs.Order.{place, in_turn, initial}
 use Rattle.rules.specs.Banks.{closes, shuts, is_idle, is_open, not_closing, act_num, start, status}
 use Rattle.rules.specs.Down.{slow_exit}
 use Rattle.answers.specs.Answer.{or_else, lowest}
@@ -81,9 +79,9 @@ covered l s = a10_of l || on (bank_of l) s
 abbrev pub covered_bank : (k : Past → Bool) (later earlier : Past) → Bool
 covered_bank k l s = k s && covered l s
 
--- a name for each least spacing, after its rule: 12 and 21 have two, and 5 and 8 stand by themselves
+-- a name for each least spacing, after its rule: 12 has two, and 5 and 8 stand by themselves
 pub data Row : Type 0 where
-  r4 r6 r7 r9 r10 r11 r12r r12w r13 r14 r15 r16 r17 r18 r19 r20 r21 r21u r22 r26 r27 r29 r30 : Row
+  r4 r6 r7 r9 r10 r11 r12r r12w r13 r14 r15 r16 r17 r18 r19 r20 r21 r22 r26 r27 r29 r30 : Row
 
 -- ── The rules, at the record r after the past p ─────────────────────────────────────────────
 
@@ -138,22 +136,20 @@ module _ (C : Chip) where
   spacing r16 = least 16 (any_bank (is Mrs)) (is Mrs) (λ _. 4)
   -- "17 MRS to another command: t_mod."
   spacing r17 = least 17 (any_bank (is Mrs)) (λ s. any_command s && not (is Mrs s)) (λ _. C.tmod)
-  -- "18 ZQ to any command: its time."; Q-8: "Rule 18 takes the longer time for that first ZQ"
-  spacing r18 = least 18 (any_bank (is Zq)) any_command (λ s. cond (initial s) (zq_init C.header).clocks (cond (a10_of s) C.zqlong C.zqshort))
+  -- "18 ZQ to any command: its time."
+  spacing r18 = least 18 (any_bank (is Zq)) any_command (λ s. cond (a10_of s) C.zqlong C.zqshort)
   -- "19 RD to MRS, SRE: RL + b."
   spacing r19 = least 19 (any_bank (is Rd)) (λ s. is Mrs s || is Sre s) (λ s. rl s + b s)
   -- "20 DLL reset or SRX to RD: 512."
   spacing r20 = least 20 (any_bank (λ s. dll_reset s || is Srx s)) (is Rd) (λ _. 512)
   -- "21 SRX to any command: t_xs."
   spacing r21 = least 21 (any_bank (is Srx)) any_command (λ _. C.txs)
-  -- Q-8, after power-up: "wait tXS's formula (rule 21, partner the rise)"
-  spacing r21u = least 21 (any_bank rises) any_command (λ _. C.txs)
   -- "22 SRE to SRX: t_cke + 1."
   spacing r22 = least 22 (any_bank (is Sre)) (is Srx) (λ _. C.tcke + 1)
   -- Q-1, 26: "entry spacings .. as one rule"
   spacing r26 = least 26 (any_bank (λ s. is Rd s || (is Wr s || is Mrs s))) (is Pde) to_entry
   -- 27: "CKE held at least t_cke"
-  spacing r27 = least 27 (any_bank turns) changes (λ _. C.tcke)
+  spacing r27 = least 27 (any_bank changes) changes (λ _. C.tcke)
   -- 29: "exit to any command t_xp"
   spacing r29 = least 29 (any_bank (is Pdx)) any_command (λ _. C.txp)
   -- 30: "after precharge power-down with MR0 A12 = 0, exit to RD"
@@ -194,7 +190,7 @@ module _ (C : Chip) where
   checks =
       rule1 ∷ rule2 ∷ rule3
       ∷ spaced r4 ∷ rule5 ∷ spaced r6 ∷ spaced r7 ∷ rule8 ∷ spaced r9 ∷ spaced r10 ∷ spaced r11 ∷ spaced r12r ∷ spaced r12w ∷ spaced r13 ∷ spaced r14
-      ∷ spaced r15 ∷ spaced r16 ∷ spaced r17 ∷ spaced r18 ∷ spaced r19 ∷ spaced r20 ∷ spaced r21 ∷ spaced r21u ∷ spaced r22
+      ∷ spaced r15 ∷ spaced r16 ∷ spaced r17 ∷ spaced r18 ∷ spaced r19 ∷ spaced r20 ∷ spaced r21 ∷ spaced r22
       ∷ rule23 ∷ []
 
   -- 26 and 27, at a change of CKE; 29 and 30, after an exit
@@ -203,13 +199,6 @@ module _ (C : Chip) where
 
   abbrev pub exit_checks : List (Record → Past → Break)
   exit_checks = spaced r29 ∷ spaced r30 ∷ []
-
-  -- 32: "its record is the command out of turn, its partner none, needed and found 0"
-  abbrev pub rule32 : Record → Past → Break
-  rule32 r p = cond (any_command (r ∷ p) && not (in_turn (place p) (r ∷ p))) (Broken 32 0 0 0) Fine
-
-  abbrev pub order_checks : List (Record → Past → Break)
-  order_checks = rule32 ∷ []
 
 -- the first of the checks that the record r after the past p breaks
 abbrev pub break_at : List (Record → Past → Break) → Record → Past → Break

@@ -1,6 +1,6 @@
 -- The verdict on a recording, and the banks, registers and debt at its end: 01, "The recording", below the table of refusals.
 -- Assumes nothing.
-use Rattle.std.specs.Prelude.{ℕ, zero, suc, ◌-◌, ◌≤◌, cond, List, [], ◌∷◌, ◌⊎◌, ◌≡◌, eqb}
+use Rattle.std.specs.Prelude.{ℕ, zero, suc, ◌-◌, ◌≤◌, cond, List, [], ◌∷◌, eqb}
 use Rattle.laws.specs.Eight.{table}
 use Rattle.records.specs.declared.Record.{Record}
 use Rattle.chip.specs.declared.Chip.{Chip}
@@ -11,10 +11,10 @@ use Rattle.answers.specs.declared.Verdict.{Verdict}
 use Rattle.answers.specs.declared.Register.{Register as Answered}
 use Rattle.answers.specs.declared.End.{End}
 use Rattle.answers.specs.Answer.{shown_of}
-use Rattle.rules.specs.Past.{Past, edge, number, rise, up_to}
+use Rattle.rules.specs.Past.{Past, edge, number, up_to}
 use Rattle.rules.specs.Registers.{Register, mr}
 use Rattle.rules.specs.Banks.{status}
-use Rattle.rules.specs.Rules.{checks, change_checks, exit_checks, order_checks}
+use Rattle.rules.specs.Rules.{checks, change_checks, exit_checks}
 use Rattle.rules.specs.Deadlines.{rule24, rule25, rule28, rule31, owed_at}
 
 -- ── An edge ─────────────────────────────────────────────────────────────────────────────────
@@ -63,8 +63,7 @@ of_records (f ∷ fs) cs = of_record f ∷ of_records fs cs
 abbrev pub edge_checks : Chip → List Check
 edge_checks C =
     of_records (checks C)
-    (deadline (rule24 C) ∷ deadline (rule25 C) ∷ of_records (change_checks C) (deadline (rule28 C) ∷ of_records (exit_checks C)
-    (deadline (rule31 C) ∷ of_records (order_checks C) [])))
+    (deadline (rule24 C) ∷ deadline (rule25 C) ∷ of_records (change_checks C) (deadline (rule28 C) ∷ of_records (exit_checks C) (deadline (rule31 C) ∷ [])))
 
 -- the lowest rule broken at edge t
 unfoldable pub broken_at : Chip → Past → ℕ → Outcome
@@ -72,14 +71,10 @@ broken_at C p t = first_of (edge_checks C) p t
 
 -- ── The verdict ─────────────────────────────────────────────────────────────────────────────
 
--- the first of the edges from 1 to t at which something is broken
-abbrev pub till : (ℕ → Outcome) → ℕ → Outcome
-till f zero = clean
-till f (suc t) = keep (till f t) (f (suc t))
-
 -- the first broken edge from 1 to t of the recording p
 unfoldable pub verdict_to : Chip → Past → ℕ → Outcome
-verdict_to C p t = till (broken_at C p) t
+verdict_to C p zero = clean
+verdict_to C p (suc t) = keep (verdict_to C p t) (broken_at C p (suc t))
 
 -- "outcome 8 (0 clean, 1 broken) .. Clean: rule, partner, needed, found are 0, record is the number of records, edge is the end edge".
 -- No verdict stops where all is fine
@@ -131,11 +126,10 @@ answer C p t =
 
 -- ── No step is 0 ────────────────────────────────────────────────────────────────────────────
 
--- each record stands at least one edge after the one before it: in a past, which may begin with the rise that ends a reset, and in a section, whose
--- first record comes first
+-- each record stands at least one edge after the one before it: in a past, and in a section, whose first record comes first
 abbrev pub Apart : Past → Type 0
 Apart [] = Unit {0}
-Apart (r ∷ p) = ((1 ≤ r.step) ⊎ ((r ≡ rise) × (p ≡ []))) × Apart p
+Apart (r ∷ p) = (1 ≤ r.step) × Apart p
 
 abbrev pub Steps : List Record → Type 0
 Steps [] = Unit {0}

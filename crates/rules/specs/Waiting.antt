@@ -7,12 +7,12 @@ use Rattle.records.specs.declared.Command.TheVariants.{Mrs, Ref, Pre, Act, Wr, R
 use Rattle.records.specs.Command.{a10}
 use Rattle.answers.specs.declared.Break.{Break}
 use Rattle.chip.specs.declared.Chip.{Chip}
-use Rattle.rules.specs.Past.{Past, edge, rises, command, is, bank_of, on, back}
+use Rattle.rules.specs.Past.{Past, edge, command, is, bank_of, on, back}
 use Rattle.rules.specs.Registers.{dll_reset}
 use Rattle.rules.specs.Banks.{act_on, closes, shuts, start}
 use Rattle.rules.specs.Down.{slow_exit}
 use Rattle.rules.specs.Search.{asking}
-use Rattle.rules.specs.Rules.{Row, r4, r6, r7, r9, r10, r11, r12r, r12w, r13, r14, r15, r16, r17, r18, r19, r20, r21, r21u, r29, r30, spacing, spaced, rule5, rule8}
+use Rattle.rules.specs.Rules.{Row, r4, r6, r7, r9, r10, r11, r12r, r12w, r13, r14, r15, r16, r17, r18, r19, r20, r21, r29, r30, spacing, spaced, rule5, rule8}
 
 -- What one rule asks of a later command: the events that ask, and the edge until which each of them does.
 pub record Ask : Type 0 where
@@ -59,21 +59,21 @@ module _ (C : Chip) where
   unfoldable pub asks : Command → (bank : ℕ) → List Ask
   asks Act b =
       by_start (closes b) ∷ by r6 (act_on b) ∷ by r7 (is Act) ∷ by_fourth
-      ∷ by r15 (is Ref) ∷ by r17 (is Mrs) ∷ by r18 (is Zq) ∷ by r21 (is Srx) ∷ by r21u rises ∷ by r29 (is Pdx) ∷ []
+      ∷ by r15 (is Ref) ∷ by r17 (is Mrs) ∷ by r18 (is Zq) ∷ by r21 (is Srx) ∷ by r29 (is Pdx) ∷ []
   asks Rd b =
       by r4 (act_on b) ∷ by r12r (is Rd) ∷ by r14 (is Wr)
-      ∷ by r15 (is Ref) ∷ by r17 (is Mrs) ∷ by r18 (is Zq) ∷ by r20 (λ s. dll_reset s || is Srx s) ∷ by r21 (is Srx) ∷ by r21u rises ∷ by r29 (is Pdx)
+      ∷ by r15 (is Ref) ∷ by r17 (is Mrs) ∷ by r18 (is Zq) ∷ by r20 (λ s. dll_reset s || is Srx s) ∷ by r21 (is Srx) ∷ by r29 (is Pdx)
       ∷ by r30 (slow_exit C) ∷ []
   asks Wr b =
       by r4 (act_on b) ∷ by r12w (is Wr) ∷ by r13 (is Rd)
-      ∷ by r15 (is Ref) ∷ by r17 (is Mrs) ∷ by r18 (is Zq) ∷ by r21 (is Srx) ∷ by r21u rises ∷ by r29 (is Pdx) ∷ []
+      ∷ by r15 (is Ref) ∷ by r17 (is Mrs) ∷ by r18 (is Zq) ∷ by r21 (is Srx) ∷ by r29 (is Pdx) ∷ []
   asks Pre b =
       by r9 (act_on b) ∷ by r10 (λ s. is Rd s && on b s) ∷ by r11 (λ s. is Wr s && on b s)
-      ∷ by r15 (is Ref) ∷ by r17 (is Mrs) ∷ by r18 (is Zq) ∷ by r21 (is Srx) ∷ by r21u rises ∷ by r29 (is Pdx) ∷ []
-  asks Ref b = by_start shuts ∷ by r15 (is Ref) ∷ by r17 (is Mrs) ∷ by r18 (is Zq) ∷ by r21 (is Srx) ∷ by r21u rises ∷ by r29 (is Pdx) ∷ []
-  asks Zq b = by_start shuts ∷ by r15 (is Ref) ∷ by r17 (is Mrs) ∷ by r18 (is Zq) ∷ by r21 (is Srx) ∷ by r21u rises ∷ by r29 (is Pdx) ∷ []
-  asks Mrs b = by_start shuts ∷ by r15 (is Ref) ∷ by r16 (is Mrs) ∷ by r18 (is Zq) ∷ by r19 (is Rd) ∷ by r21 (is Srx) ∷ by r21u rises ∷ by r29 (is Pdx) ∷ []
-  asks Sre b = by_start shuts ∷ by r15 (is Ref) ∷ by r17 (is Mrs) ∷ by r18 (is Zq) ∷ by r19 (is Rd) ∷ by r21 (is Srx) ∷ by r21u rises ∷ by r29 (is Pdx) ∷ []
+      ∷ by r15 (is Ref) ∷ by r17 (is Mrs) ∷ by r18 (is Zq) ∷ by r21 (is Srx) ∷ by r29 (is Pdx) ∷ []
+  asks Ref b = by_start shuts ∷ by r15 (is Ref) ∷ by r17 (is Mrs) ∷ by r18 (is Zq) ∷ by r21 (is Srx) ∷ by r29 (is Pdx) ∷ []
+  asks Zq b = by_start shuts ∷ by r15 (is Ref) ∷ by r17 (is Mrs) ∷ by r18 (is Zq) ∷ by r21 (is Srx) ∷ by r29 (is Pdx) ∷ []
+  asks Mrs b = by_start shuts ∷ by r15 (is Ref) ∷ by r16 (is Mrs) ∷ by r18 (is Zq) ∷ by r19 (is Rd) ∷ by r21 (is Srx) ∷ by r29 (is Pdx) ∷ []
+  asks Sre b = by_start shuts ∷ by r15 (is Ref) ∷ by r17 (is Mrs) ∷ by r18 (is Zq) ∷ by r19 (is Rd) ∷ by r21 (is Srx) ∷ by r29 (is Pdx) ∷ []
   asks Nop b = []
   asks Des b = []
   asks Srx b = []
@@ -99,7 +99,7 @@ module _ (C : Chip) where
   abbrev pub spacing_rules : List (Record → Past → Break)
   spacing_rules =
       spaced C r4 ∷ rule5 C ∷ spaced C r6 ∷ spaced C r7 ∷ rule8 C ∷ spaced C r9 ∷ spaced C r10 ∷ spaced C r11 ∷ spaced C r12r ∷ spaced C r12w
-      ∷ spaced C r13 ∷ spaced C r14 ∷ spaced C r15 ∷ spaced C r16 ∷ spaced C r17 ∷ spaced C r18 ∷ spaced C r19 ∷ spaced C r20 ∷ spaced C r21 ∷ spaced C r21u ∷ []
+      ∷ spaced C r13 ∷ spaced C r14 ∷ spaced C r15 ∷ spaced C r16 ∷ spaced C r17 ∷ spaced C r18 ∷ spaced C r19 ∷ spaced C r20 ∷ spaced C r21 ∷ []
 
   abbrev pub waiting_rules : List (Record → Past → Break)
   waiting_rules = spacing_rules ++ (spaced C r29 ∷ spaced C r30 ∷ [])

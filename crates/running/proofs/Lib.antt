@@ -1,4 +1,3 @@
 pub mod Ranging
 pub mod Asking
 pub mod Soonest
-pub mod Ordering

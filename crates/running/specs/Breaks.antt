@@ -87,14 +87,10 @@ abbrev pub rule23 : Command → Shared → Break
 rule23 c s =
     cond (is_a Sre c && ltb s.rests.refreshed.num s.rests.woke.num) (Broken 23 s.rests.woke.num 0 0) Fine
 
--- rule 21: from an SRX, or from the rise of CKE that ended a reset
-abbrev pub woken : (e : ℕ) → Shared → Break → Break
-woken e s otherwise = spaced 21 e s.rests.woke (spaced 21 e s.rests.risen otherwise)
-
 -- rules 15, 17, 18, 21, of a command that is no MRS
 unfoldable pub waits : Chip → (e : ℕ) → Shared → Break → Break
 waits C e s otherwise =
-    spaced 15 e s.rests.refreshed (spaced 17 e (needing C.tmod s.mrs) (spaced 18 e s.rests.tuned (woken e s otherwise)))
+    spaced 15 e s.rests.refreshed (spaced 17 e (needing C.tmod s.mrs) (spaced 18 e s.rests.tuned (spaced 21 e s.rests.woke otherwise)))
 
 -- k: the record's bank
 unfoldable pub spacings : Chip → Command → Record → (e : ℕ) → Kept → Shared → Break
@@ -119,9 +115,8 @@ spacings C c r e k s =
     (when_is (is_a Mrs c || is_a Sre c) 19 e (as19 s.read)
     (when_is (is_a Rd c) 20 e s.rests.reset
     (when_is (counts c) 21 e s.rests.woke
-    (when_is (counts c) 21 e s.rests.risen
     (when_is (is_a Srx c) 22 e s.rests.slept
-    (rule23 c s))))))))))))))))))))))
+    (rule23 c s)))))))))))))))))))))
 
 abbrev pub rule1 : Command → Break
 rule1 c = cond (is_a Bad c) (Broken 1 0 0 0) Fine

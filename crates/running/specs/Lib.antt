@@ -3,7 +3,6 @@ pub mod Breaks
 pub mod Down
 pub mod Waits
 pub mod Next
-pub mod Order
 pub mod Late
 pub mod Said
 pub mod Deadlines

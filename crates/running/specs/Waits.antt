@@ -22,21 +22,21 @@ last_end (m ∷ ms) = max (ends m) (last_end ms)
 unfoldable pub marks_for : Chip → Command → Kept → Shared → List Mark
 marks_for C Act k s =
     k.shut ∷ needing C.trc k.acted ∷ needing C.trrd (get_or s.acts 0 none) ∷ needing C.tfaw (get_or s.acts 3 none)
-    ∷ s.rests.refreshed ∷ needing C.tmod s.mrs ∷ s.rests.tuned ∷ s.rests.woke ∷ s.rests.risen ∷ s.rests.left ∷ []
+    ∷ s.rests.refreshed ∷ needing C.tmod s.mrs ∷ s.rests.tuned ∷ s.rests.woke ∷ s.rests.left ∷ []
 marks_for C Rd k s =
     k.acted ∷ needing 4 (as10 s.read) ∷ as14 s.wrote
-    ∷ s.rests.refreshed ∷ needing C.tmod s.mrs ∷ s.rests.tuned ∷ s.rests.reset ∷ s.rests.woke ∷ s.rests.risen ∷ s.rests.left
+    ∷ s.rests.refreshed ∷ needing C.tmod s.mrs ∷ s.rests.tuned ∷ s.rests.reset ∷ s.rests.woke ∷ s.rests.left
     ∷ s.rests.slow ∷ []
 marks_for C Wr k s =
     k.acted ∷ needing 4 (as11 s.wrote) ∷ as13 s.read
-    ∷ s.rests.refreshed ∷ needing C.tmod s.mrs ∷ s.rests.tuned ∷ s.rests.woke ∷ s.rests.risen ∷ s.rests.left ∷ []
+    ∷ s.rests.refreshed ∷ needing C.tmod s.mrs ∷ s.rests.tuned ∷ s.rests.woke ∷ s.rests.left ∷ []
 marks_for C Pre k s =
     needing C.tras k.acted ∷ k.read ∷ k.wrote
-    ∷ s.rests.refreshed ∷ needing C.tmod s.mrs ∷ s.rests.tuned ∷ s.rests.woke ∷ s.rests.risen ∷ s.rests.left ∷ []
-marks_for C Ref k s = s.shut ∷ s.rests.refreshed ∷ needing C.tmod s.mrs ∷ s.rests.tuned ∷ s.rests.woke ∷ s.rests.risen ∷ s.rests.left ∷ []
-marks_for C Zq k s = s.shut ∷ s.rests.refreshed ∷ needing C.tmod s.mrs ∷ s.rests.tuned ∷ s.rests.woke ∷ s.rests.risen ∷ s.rests.left ∷ []
-marks_for C Mrs k s = s.shut ∷ s.rests.refreshed ∷ s.mrs ∷ s.rests.tuned ∷ as19 s.read ∷ s.rests.woke ∷ s.rests.risen ∷ s.rests.left ∷ []
-marks_for C Sre k s = s.shut ∷ s.rests.refreshed ∷ needing C.tmod s.mrs ∷ s.rests.tuned ∷ as19 s.read ∷ s.rests.woke ∷ s.rests.risen ∷ s.rests.left ∷ []
+    ∷ s.rests.refreshed ∷ needing C.tmod s.mrs ∷ s.rests.tuned ∷ s.rests.woke ∷ s.rests.left ∷ []
+marks_for C Ref k s = s.shut ∷ s.rests.refreshed ∷ needing C.tmod s.mrs ∷ s.rests.tuned ∷ s.rests.woke ∷ s.rests.left ∷ []
+marks_for C Zq k s = s.shut ∷ s.rests.refreshed ∷ needing C.tmod s.mrs ∷ s.rests.tuned ∷ s.rests.woke ∷ s.rests.left ∷ []
+marks_for C Mrs k s = s.shut ∷ s.rests.refreshed ∷ s.mrs ∷ s.rests.tuned ∷ as19 s.read ∷ s.rests.woke ∷ s.rests.left ∷ []
+marks_for C Sre k s = s.shut ∷ s.rests.refreshed ∷ needing C.tmod s.mrs ∷ s.rests.tuned ∷ as19 s.read ∷ s.rests.woke ∷ s.rests.left ∷ []
 marks_for C Nop k s = []
 marks_for C Des k s = []
 marks_for C Srx k s = []

@@ -50,7 +50,7 @@ pub struct Written {
     pub dll: bool,
 }
 
-// The latest REF (15), ZQ (18), DLL reset or SRX (20), SRX (21), the rise of CKE that ended a reset (21), the latest SRE (22), change of CKE (27), power-down exit (29), and one of precharge
+// The latest REF (15), ZQ (18), DLL reset or SRX (20), SRX (21), SRE (22), change of CKE (27), power-down exit (29), and one of precharge
 // power-down with MR0 A12 = 0 (30).
 #[derive(Drop)]
 pub struct Rests {
@@ -58,7 +58,6 @@ pub struct Rests {
     pub tuned: Mark,
     pub reset: Mark,
     pub woke: Mark,
-    pub risen: Mark,
     pub slept: Mark,
     pub turned: Mark,
     pub left: Mark,

@@ -4,5 +4,4 @@ pub mod Section
 pub mod Sections
 pub mod Cuts
 pub mod Recordings
-pub mod High
 pub mod Lots

@@ -1,6 +1,5 @@
 -- A lot: sections in turn through the judge, and as each rank sees them through a tally. Where the judge takes each of them, all speak of one
 -- recording, the uncut one, a walk over its records finds them where looking back does, and the search finds each where it stands in the files.
--- Resets are seen by the tally and by the walk that tells the kinds; the search goes by numbers and places alone.
 -- Assumes nothing.
 use Prim.Native.Nat.{ℕ, ◌+◌, ◌*◌, ◌/◌, ◌≤◌, ◌<◌}
 use native.Mathlib.Nat.{zero-div}
@@ -13,10 +12,9 @@ use borrow.Author.Tests.{eq-eqb}
 use Rattle.laws.specs.Cuts.{uncut, Each}
 use Rattle.records.specs.declared.Record.{Record}
 use Rattle.records.specs.Record.{records}
-use Rattle.records.specs.Wired.{Wired}
 use Rattle.records.proofs.Pieces.{map-append}
 use Rattle.records.proofs.Records.{length-records}
-use Rattle.wide.specs.Editions.{size, view, wires}
+use Rattle.wide.specs.Editions.{size, view}
 use Rattle.wide.proofs.Editions.{count-both, view-none, view-both, view-sixes, view-count, second-most}
 use Rattle.header.specs.declared.Header.{Header}
 use Rattle.header.specs.Bytes.{edition_for}
@@ -32,15 +30,13 @@ use Rattle.sections.specs.Sections.{Opens, Even, after, refused, run as judge_ru
 use Rattle.sections.proofs.Section.{fits, Stands, refused-by}
 use Rattle.sections.proofs.Sections.{sound-chip, opened, stands-more, sections-judged}
 use Rattle.tally.specs.declared.Tally.{Tally}
-use Rattle.tally.specs.Course.{kind_in, course_after}
-use Rattle.tally.specs.Course as course
 use Rattle.tally.specs.Tally.{start}
-use Rattle.tally.specs.Counts.{kind_after, total}
+use Rattle.tally.specs.Counts.{total}
 use Rattle.tally.specs.Walk.{start as begin, reached_of}
 use Rattle.tally.specs.declared.Sought.TheVariants.{Here}
 use Rattle.tally.specs.Places.{start_of, records_of, numbered}
 use Rattle.tally.proofs.Walking.{Small, walk, walk_is}
-use Rattle.tally.proofs.Cuts.{line, run, Tells, uncut-tallied, kind-walked, Sixes}
+use Rattle.tally.proofs.Cuts.{run, Tells, sections-tallied, start-stands, Sixes, all-taken}
 use Rattle.tally.specs.Search.{CutAs, find_all}
 use Rattle.tally.proofs.Files.{search_is, in_turn, records-uncut}
 
@@ -103,10 +99,8 @@ small bs most =
 -- the judge's state, and a rank's tally, of the recording of the bytes bs
 pub record OneLot (h : Header) (e : ℕ) (second : Bool) (bs : List ℕ) (s : State) (t : Tally) : Type 0 where
   pub judged : Judges h e bs s
-  pub counted : Tells e second bs t
-  pub all : total t.counts ≡ length (wires e second bs)
-  -- a walk gives each record behind them the kind by which it is counted
-  pub kinds : (w : Wired) → kind_in (course_after course.start (wires e second bs)) w ≡ kind_after w (line e second bs)
+  pub counted : Tells (view e second bs) t
+  pub all : total t.counts ≡ length (view e second bs) / 6
   pub listed : (limit : ℕ) → walk limit (begin limit) (records (view e second bs)) ≡ reached_of limit (recording (view e second bs))
 
 module _ (header : List ℕ) (h : Header) (o : Opens header h) where
@@ -125,18 +119,26 @@ module _ (header : List ℕ) (h : Header) (o : Opens header h) where
   module _ (second : Bool) where
     pub lot-is-one :
         (xss : List (List ℕ)) → AllTaken (open_of header).state xss
-        → OneLot h e second (uncut xss) (judge_run (open_of header).state xss) (run e second start xss)
+        → OneLot h e second (uncut xss) (judge_run (open_of header).state xss) (run start (seen e second xss))
     unfolding asleep
     lot-is-one xss t = record {
       judged = subst (λ bs. Judges h e bs (judge_run (open_of header).state xss)) (all_in xss t).2 (sections-judged header h o xss);
       counted = counted;
       all = counted.sum ∙ counted.number_is;
-      kinds = kind-walked e second (uncut xss);
       listed = λ limit. walk_is limit (records (view e second (uncut xss))) [] (small (view e second (uncut xss)) (seen_few second xss t));
     }
       where
-        counted : Tells e second (uncut xss) (run e second start xss)
-        counted = uncut-tallied e second xss (all_in xss t).0 (omega (arith, (all_in xss t).1))
+        even : Each (Even e) xss
+        even = (all_in xss t).0
+
+        few : length (uncut (seen e second xss)) / 6 ≤ limit
+        few = omega (arith, ap length (seen-uncut e second xss even), seen_few second xss t)
+
+        counted : Tells (view e second (uncut xss)) (run start (seen e second xss))
+        counted =
+            subst (λ bs. Tells bs (run start (seen e second xss)))
+            (all-taken (seen e second xss) [] start start-stands (seen-sixes e second xss even) (omega (arith, few)) ∙ seen-uncut e second xss even)
+            (sections-tallied (seen e second xss))
 
 -- the records of a lot that the judge takes, in the files as given: in edition 2 in the bytes that a rank sees of them
 pub record FoundLot (files : List (List ℕ)) (cuts : List (List (List ℕ))) : Type 0 where

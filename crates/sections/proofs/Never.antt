@@ -1,50 +1,77 @@
 -- 17 is never given for a state that opening or a section returned: such a state is in range.
 -- Assumes nothing.
 use Prim.Native.Nat.{ℕ, ◌+◌, ◌/◌, ◌%◌, ◌≤◌}
+use native.Mathlib.Decide.{ℕ_discrete}
 use native.Mathlib.Omega.{arith}
 use mathlib.Core.Path.{◌≡◌, refl, sym, ap, ◌∙◌}
 use mathlib.Core.Bool.{Bool, true, false, cond}
-use mathlib.Core.List.{List}
+use mathlib.Core.List.{List, map}
 use mathlib.Core.Logic.{◌⊎◌, ⊎_elim}
 use lib.Dec.{eqb, ltb}
-use lib.ListN.{length}
-use borrow.Author.Tests.{ltb-false}
+use lib.ListN.{length, get_or-replicate}
+use borrow.Author.Tests.{ltb-false, le-leb, eq-eqb}
 use Rattle.units.proofs.Rounding.{down-zero}
 use Rattle.header.specs.declared.Header.{Header}
 use Rattle.header.specs.declared.Parsed.{Parsed}
 use Rattle.header.specs.declared.Parsed.TheVariants.{Taken, Refused}
 use Rattle.header.specs.Bytes.{edition_for, parsed_of}
 use Rattle.header.specs.Counts.{t_refi}
+use Rattle.header.proofs.Bounds.{bounds}
 use Rattle.records.specs.Record.{records, has_zero}
+use Rattle.wide.specs.Wide.{wides, rank_of}
 use Rattle.wide.specs.Editions.{size, view, spare_in, refusal}
+use Rattle.wide.proofs.Moving.{records-narrow}
+use Rattle.wide.proofs.Editions.{view-count, second-most, view-two}
 use Rattle.chip.specs.Chip.{chip_of}
 use Rattle.running.specs.Ranges.{limit}
 use Rattle.running.proofs.Ranging.{small}
-use Rattle.edges.specs.Ends.{fresh_rank}
-use Rattle.edges.specs.Stretch.{start_stretch, counted}
-use Rattle.edges.proofs.Ranging.{in-range}
-use Rattle.edges.proofs.Rising.{start-ranged}
+use Rattle.edges.specs.declared.Rank.{Rank}
+use Rattle.edges.specs.Step.{fold_of}
+use Rattle.edges.specs.Ranges.{rank_in_range}
+use Rattle.edges.specs.Ends.{fresh_banks, fresh_acts, fresh_device, fresh_rank, start_rank}
+use Rattle.edges.proofs.Ranging as rank
 use Rattle.judge.specs.declared.Opened.{Opened}
 use Rattle.judge.specs.declared.State.{State}
 use Rattle.judge.specs.declared.Taken.{Taken as Section}
-use Rattle.judge.specs.Ranges.{in_range}
-use Rattle.judge.specs.Calls.{start_of, opened_by, open_of, taken_by, section_of}
-use Rattle.judge.proofs.Ranging.{Within, in-range-one, in-range-two, section-by}
-use Rattle.judge.proofs.Keeping.{folded-in-range}
+use Rattle.judge.specs.Ranges.{ranks_agree, in_range}
+use Rattle.judge.specs.Calls.{start_of, opened_by, open_of, folded, taken_by, section_of}
+use Rattle.judge.proofs.Folds.{fold-kept, level-on}
+use Rattle.judge.proofs.Ranging as state
 use Rattle.sections.proofs.Openings.{either-edition, opened-header, opened-state, taken-sound}
+
+-- ── From the facts to the test ──────────────────────────────────────────────────────────────
+
+agree-one : (s : State) → s.edition ≡ 1 → ranks_agree s ≡ true
+unfolding ranks_agree
+agree-one s e = rw e
+
+agree-two : (s : State) → s.edition ≡ 2 → rank_in_range s.two ≡ true → s.one.count ≡ s.two.count → s.one.edge ≡ s.two.edge → ranks_agree s ≡ true
+unfolding ranks_agree
+agree-two s e r c t = rw (eq-eqb s.edition 2 e, r, eq-eqb s.one.count s.two.count c, eq-eqb s.one.edge s.two.edge t)
+
+in-range : (s : State) → 1 ≤ (t_refi s.header).clocks → rank_in_range s.one ≡ true → ranks_agree s ≡ true → in_range s ≡ true
+unfolding in_range
+in-range s some r a = rw (le-leb 1 (t_refi s.header).clocks some, r, a)
 
 -- ── Opening ─────────────────────────────────────────────────────────────────────────────────
 
-module _ (h : Header) (e : ℕ) (some : 1 ≤ (t_refi h).clocks) where
-  begun : Within (start_stretch (chip_of h))
-  unfolding fresh_rank
-  begun = record { rank = in-range _ (start-ranged (chip_of h) (small h some)); count = omega arith; reach = omega arith }
+start-ranged : (h : Header) → rank_in_range (start_rank (chip_of h)) ≡ true
+unfolding fresh_rank fresh_banks fresh_acts fresh_device chip_of
+start-ranged h = rank.in-range (start_rank (chip_of h)) (record {
+  edge = omega arith;
+  count = omega arith;
+  debt = (omega (arith, (bounds h).refi), omega (arith, (bounds h).nine));
+  turn = omega arith;
+  broke = omega arith;
+  turned = omega arith;
+  acted = λ b l. rw (get_or-replicate {A = ℕ} 8 b 0 0 l) (omega arith);
+  ring = λ i l. rw (get_or-replicate {A = ℕ} 4 i 0 0 l) (omega arith);
+})
 
-  start-in-range : (e ≡ 1) ⊎ (e ≡ 2) → in_range (start_of h e) ≡ true
-  start-in-range w = ⊎_elim
-      (λ one. in-range-one (start_of h e) some one refl begun)
-      (λ two. in-range-two (start_of h e) some two begun (record { second = begun; count = refl; edge = refl }))
-      w
+start-in-range : (h : Header) (e : ℕ) → 1 ≤ (t_refi h).clocks → (e ≡ 1) ⊎ (e ≡ 2) → in_range (start_of h e) ≡ true
+start-in-range h e some w =
+    in-range (start_of h e) some (start-ranged h)
+    (⊎_elim (agree-one (start_of h e)) (λ t. agree-two (start_of h e) t (start-ranged h) refl refl) w)
 
 pub open-in-range : (bytes : List ℕ) → (open_of bytes).refused ≡ 0 → in_range (open_of bytes).state ≡ true
 unfolding chip_of
@@ -57,16 +84,50 @@ open-in-range bytes z =
 -- ── A section ───────────────────────────────────────────────────────────────────────────────
 
 module _ (s : State) (bs : List ℕ) (h : in_range s ≡ true) where
+  k : state.Tested s
+  k = state.tested s h
+
+  module _ (room : s.one.count + length bs / size s.edition ≤ limit) where
+    first : rank_in_range (folded s bs).one ≡ true
+    first =
+        (fold-kept (chip_of s.header) (small s.header k.some) s.one k.rank (view s.edition false bs)
+        (omega (arith, view-count s.edition bs))).0
+
+    both : s.edition ≡ 2 → ranks_agree (folded s bs) ≡ true
+    both e =
+        let a = k.second e in
+        let w = level-on (chip_of s.header) (wides bs) s.one s.two a.count a.edge in
+        agree-two (folded s bs) e
+        (fold-kept (chip_of s.header) (small s.header k.some) s.two a.rank (view s.edition true bs)
+        (omega (arith, second-most s.edition bs, a.count))).0
+        (same (λ n. n.count) w.0) (same (λ n. n.edge) w.1)
+      where
+        seen : (second : Bool) (n : Rank) → fold_of (chip_of s.header) n (records (view s.edition second bs)) ≡ fold_of (chip_of s.header) n (map (rank_of second) (wides bs))
+        seen second n =
+            ap (λ xs. fold_of (chip_of s.header) n (records xs)) (ap (λ (a : ℕ). view a second bs) e ∙ view-two second bs)
+            ∙ ap (fold_of (chip_of s.header) n) (records-narrow second bs)
+
+        same : (f : Rank → ℕ)
+            → f (fold_of (chip_of s.header) s.one (map (rank_of false) (wides bs))) ≡ f (fold_of (chip_of s.header) s.two (map (rank_of true) (wides bs)))
+            → f (folded s bs).one ≡ f (folded s bs).two
+        same f q = ap f (seen false s.one) ∙ q ∙ sym (ap f (seen true s.two))
+
+    folded-in-range : in_range (folded s bs) ≡ true
+    folded-in-range = elim (ℕ_discrete s.edition 2) [
+      | yes e ↦ in-range (folded s bs) k.some first (both e)
+      | no n ↦ in-range (folded s bs) k.some first (agree-one (folded s bs) (k.only n))
+    ]
+
   pub section-in-range : in_range (section_of s bs).state ≡ true
   unfolding refusal
   section-in-range =
-      ap (λ (t : Section). in_range t.state) (sym (section-by s h bs (refusal s.edition (counted s.one) bs) refl))
-      ∙ go (eqb (length bs % size s.edition) 0) (ltb limit (counted s.one + length bs / size s.edition)) refl (has_zero (records (view s.edition false bs)))
+      ap (λ (t : Section). in_range t.state) (sym (state.section-by s h bs (refusal s.edition s.one.count bs) refl))
+      ∙ go (eqb (length bs % size s.edition) 0) (ltb limit (s.one.count + length bs / size s.edition)) refl (has_zero (records (view s.edition false bs)))
       (spare_in s.edition bs)
     where
-      go : (x y : Bool) → ltb limit (counted s.one + length bs / size s.edition) ≡ y → (z w : Bool)
+      go : (x y : Bool) → ltb limit (s.one.count + length bs / size s.edition) ≡ y → (z w : Bool)
           → in_range (taken_by (cond x (cond y 7 (cond z 6 (cond w 14 0))) 5) s bs).state ≡ true
-      go true false q false false = folded-in-range s h bs (ltb-false _ _ q)
+      go true false q false false = folded-in-range (ltb-false _ _ q)
       go true false q false true = h
       go true false q true w = h
       go true true q z w = h

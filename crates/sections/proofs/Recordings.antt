@@ -17,8 +17,9 @@ use Rattle.header.specs.Bins.{bin_of}
 use Rattle.header.specs.Bytes.{edition_for, parsed_of, edition, bin, zero_a, zero_b, period, fields_refusal, header_refusal, header_word, header_of, number_of}
 use Rattle.header.proofs.Answers.{number_is}
 use Rattle.records.specs.Record.{records, has_zero}
+use Rattle.records.proofs.Records.{length-records}
 use Rattle.wide.specs.Editions.{size, view, spare_in, refusal}
-use Rattle.wide.proofs.Editions.{second-zero}
+use Rattle.wide.proofs.Editions.{view-count, second-most, second-zero}
 use Rattle.chip.specs.Chip.{chip_of}
 use Rattle.judge.specs.declared.State.{State}
 use Rattle.judge.specs.declared.Closed.{Closed}
@@ -26,13 +27,14 @@ use Rattle.judge.specs.declared.Taken.{Taken as Section}
 use Rattle.judge.specs.Calls.{opened_by, open_of, section_of, of_second, close_of, closed, not_closed}
 use Rattle.running.specs.Ranges.{limit, last_edge}
 use Rattle.running.specs.Ends.{no_end}
-use Rattle.rules.specs.Power.{last_of, count_of, line_verdict, line_answer}
-use Rattle.rules.proofs.Lines.{Stepped}
+use Rattle.rules.specs.Past.{edge, number}
+use Rattle.rules.specs.Verdict.{shown_verdict, Apart, answer}
+use Rattle.rules.proofs.Cutting.{number-all, steps, apart-all}
 use Rattle.rules.proofs.Facts.{Sound}
-use Rattle.sections.specs.Recording.{header_bytes, body, line, end_refusal, records_refusal, whole_refusal, whole_verdict}
+use Rattle.sections.specs.Recording.{header_bytes, body, past, end_refusal, records_refusal, whole_refusal, whole_verdict}
 use Rattle.sections.specs.Sections.{Opens, refused}
 use Rattle.sections.proofs.Openings.{least-period, taken_is, opened-header}
-use Rattle.sections.proofs.Section.{fits, stepped_line, count_most, Stands, refused-by, close-is}
+use Rattle.sections.proofs.Section.{fits, Stands, refused-by, close-is}
 use Rattle.sections.proofs.Sections.{sound-chip, opened as opened-stands, stands-more}
 
 opened-number : (e : ℕ) (p : Parsed) → (opened_by e p).refused ≡ number_of p
@@ -61,7 +63,7 @@ refusal-most bs end =
     go (eqb (length (header_bytes bs)) 6) (fields_refusal (edition_for bs) (header_word (header_bytes bs))) (fields-most _ _)
     (eqb (length (body bs) % size (edition_for bs)) 0) (ltb 1048576 (length (body bs) / size (edition_for bs)))
     (has_zero (records (view (edition_for bs) false (body bs)))) (spare_in (edition_for bs) (body bs))
-    (ltb end (last_of (line false bs)) || ltb 17592186044416 end)
+    (ltb end (edge (past false bs)) || ltb 17592186044416 end)
   where
     rest : (x y z s w : Bool) → cond x (cond y 7 (cond z 6 (cond s 14 (cond w 8 0)))) 5 ≤ 14
     rest true true z s w = omega arith
@@ -154,8 +156,8 @@ module _ (bs : List ℕ) (end : ℕ) where
     module _ (t : section.refused ≡ 0) where
       closed_is :
           ended
-          ≡ cond (ltb end (last_of (line false bs)) || ltb last_edge end) (not_closed 8)
-          (closed (line_answer (chip_of h) (line false bs) end) (of_second e (line_answer (chip_of h) (line true bs) end) no_end))
+          ≡ cond (ltb end (edge (past false bs)) || ltb last_edge end) (not_closed 8)
+          (closed (answer (chip_of h) (past false bs) end) (of_second e (answer (chip_of h) (past true bs) end) no_end))
       closed_is =
           close-is h S e (body bs) section.state
           (stands-more h S e [] opened begun (body bs) (rw (zero-div (size e)) (fits e 0 (body bs) (sym section-number ∙ t)))) end
@@ -164,29 +166,29 @@ module _ (bs : List ℕ) (end : ℕ) where
       whole-end = by-records ∙ then-end ∙ ap (λ x. cond x (end_refusal bs end) (refusal e 0 (body bs))) (eq-eqb _ 0 (sym section-number ∙ t))
 
       pub closed-number : ended.refused ≡ whole_refusal bs end
-      unfolding line_answer
-      closed-number = ap (λ (c : Closed). c.refused) closed_is ∙ go (ltb end (last_of (line false bs)) || ltb last_edge end) ∙ sym whole-end
+      unfolding answer
+      closed-number = ap (λ (c : Closed). c.refused) closed_is ∙ go (ltb end (edge (past false bs)) || ltb last_edge end) ∙ sym whole-end
         where
           go : (x : Bool)
-              → (cond x (not_closed 8) (closed (line_answer (chip_of h) (line false bs) end) (of_second e (line_answer (chip_of h) (line true bs) end) no_end))).refused ≡ cond x 8 0
+              → (cond x (not_closed 8) (closed (answer (chip_of h) (past false bs) end) (of_second e (answer (chip_of h) (past true bs) end) no_end))).refused ≡ cond x 8 0
           go true = refl
           go false = refl
 
       module _ (c : ended.refused ≡ 0) where
         -- closing is not refused
-        ended_is : ended ≡ closed (line_answer (chip_of h) (line false bs) end) (of_second e (line_answer (chip_of h) (line true bs) end) no_end)
-        ended_is = go (ltb end (last_of (line false bs)) || ltb last_edge end) closed_is
+        ended_is : ended ≡ closed (answer (chip_of h) (past false bs) end) (of_second e (answer (chip_of h) (past true bs) end) no_end)
+        ended_is = go (ltb end (edge (past false bs)) || ltb last_edge end) closed_is
           where
             go : (x : Bool)
-                → ended ≡ cond x (not_closed 8) (closed (line_answer (chip_of h) (line false bs) end) (of_second e (line_answer (chip_of h) (line true bs) end) no_end))
-                → ended ≡ closed (line_answer (chip_of h) (line false bs) end) (of_second e (line_answer (chip_of h) (line true bs) end) no_end)
+                → ended ≡ cond x (not_closed 8) (closed (answer (chip_of h) (past false bs) end) (of_second e (answer (chip_of h) (past true bs) end) no_end))
+                → ended ≡ closed (answer (chip_of h) (past false bs) end) (of_second e (answer (chip_of h) (past true bs) end) no_end)
             go true q = absurd (omega (arith, sym c ∙ ap (λ (y : Closed). y.refused) q))
             go false q = q
 
-        told : (second : Bool) → (line_answer (chip_of h) (line second bs) end).verdict ≡ whole_verdict second bs end
-        unfolding line_answer whole_verdict
+        told : (second : Bool) → (answer (chip_of h) (past second bs) end).verdict ≡ whole_verdict second bs end
+        unfolding answer whole_verdict
         told second =
-            ap (λ x. line_verdict (chip_of x) (line second bs) end) (sym (taken_is (edition_for (header_bytes bs)) (header_bytes bs) h is).1)
+            ap (λ x. shown_verdict (chip_of x) (past second bs) end) (sym (taken_is (edition_for (header_bytes bs)) (header_bytes bs) h is).1)
 
         pub closed-verdict : ended.end.verdict ≡ whole_verdict false bs end
         closed-verdict = ap (λ (y : Closed). y.end.verdict) ended_is ∙ told false
@@ -194,37 +196,46 @@ module _ (bs : List ℕ) (end : ℕ) where
         pub closed-second : e ≡ 2 → ended.second.verdict ≡ whole_verdict true bs end
         closed-second two =
             ap (λ (y : Closed). y.second.verdict) ended_is
-            ∙ ap (λ (x : Bool). (cond x (line_answer (chip_of h) (line true bs) end) no_end).verdict) (eq-eqb e 2 two) ∙ told true
+            ∙ ap (λ (x : Bool). (cond x (answer (chip_of h) (past true bs) end) no_end).verdict) (eq-eqb e 2 two) ∙ told true
 
 -- ── A recording that is not refused ─────────────────────────────────────────────────────────
 
 pub record Good (bs : List ℕ) (end : ℕ) : Type 0 where
   pub least : 1070 ≤ (header_of (header_word (header_bytes bs))).period.ps
-  pub stepped : (second : Bool) → Stepped (line second bs)
-  pub few : (second : Bool) → count_of (line second bs) ≤ 1048576
+  pub apart : (second : Bool) → Apart (past second bs)
+  pub few : (second : Bool) → number (past second bs) ≤ 1048576
   pub near : end ≤ 17592186044416
+
+-- what a rank sees of it
+abbrev seen : List ℕ → (second : Bool) → List ℕ
+seen bs second = view (edition_for bs) second (body bs)
 
 pub good : (bs : List ℕ) (end : ℕ) → whole_refusal bs end ≡ 0 → Good bs end
 unfolding whole_refusal records_refusal
 good bs end taken =
     go (eqb (header_refusal (edition_for bs) (header_bytes bs)) 0) refl (eqb (length (body bs) % size (edition_for bs)) 0)
     (ltb 1048576 (length (body bs) / size (edition_for bs))) refl
-    (has_zero (records (view (edition_for bs) false (body bs)))) refl (spare_in (edition_for bs) (body bs)) (ltb end (last_of (line false bs))) (ltb 17592186044416 end) refl taken
+    (has_zero (records (view (edition_for bs) false (body bs)))) refl (spare_in (edition_for bs) (body bs)) (ltb end (edge (past false bs))) (ltb 17592186044416 end) refl taken
   where
-    none : has_zero (records (view (edition_for bs) false (body bs))) ≡ false → (second : Bool) → has_zero (records (view (edition_for bs) second (body bs))) ≡ false
+    none : has_zero (records (seen bs false)) ≡ false → (second : Bool) → has_zero (records (seen bs second)) ≡ false
     none t true = second-zero (edition_for bs) (body bs) t
     none t false = t
 
+    counts : (second : Bool) → length (seen bs second) / 6 ≤ length (body bs) / size (edition_for bs)
+    counts true = second-most (edition_for bs) (body bs)
+    counts false = omega (arith, view-count (edition_for bs) (body bs))
+
     go :
         (x : Bool) → eqb (header_refusal (edition_for bs) (header_bytes bs)) 0 ≡ x → (s : Bool)
-        → (l : Bool) → ltb 1048576 (length (body bs) / size (edition_for bs)) ≡ l → (z : Bool) → has_zero (records (view (edition_for bs) false (body bs))) ≡ z
+        → (l : Bool) → ltb 1048576 (length (body bs) / size (edition_for bs)) ≡ l → (z : Bool) → has_zero (records (seen bs false)) ≡ z
         → (w a b : Bool) → ltb 17592186044416 end ≡ b
         → cond x (cond s (cond l 7 (cond z 6 (cond w 14 (cond (a || b) 8 0)))) 5) (header_refusal (edition_for bs) (header_bytes bs)) ≡ 0 → Good bs end
     go true p true false r false t false false false u q =
         record {
           least = least-period (edition_for bs) (header_bytes bs) (eqb-true _ _ p);
-          stepped = λ second. stepped_line (edition_for bs) second (body bs) (none t second);
-          few = λ second. omega (arith, count_most (edition_for bs) second (body bs), ltb-false 1048576 (length (body bs) / size (edition_for bs)) r);
+          apart = λ second. apart-all (records (seen bs second)) [] (steps (records (seen bs second)) (none t second)) tt;
+          few = λ second.
+              omega (arith, number-all (records (seen bs second)) [], length-records (seen bs second), counts second, ltb-false 1048576 (length (body bs) / size (edition_for bs)) r);
           near = ltb-false _ _ u;
         }
     go true p true false r false t false false true u q = absurd (omega arith)

@@ -1,12 +1,13 @@
 -- A whole recording in bytes: when it is refused, and the verdicts on it: 01, "The recording", and 02, Q-7.
 -- Assumes nothing.
-use Rattle.std.specs.Prelude.{ℕ, ◌/◌, ◌%◌, Bool, false, cond, ◌||◌, List, reverse, eqb, ltb, length, take, drop}
+use Rattle.std.specs.Prelude.{ℕ, ◌/◌, ◌%◌, Bool, false, cond, ◌||◌, List, eqb, ltb, length, take, drop}
 use Rattle.header.specs.Bytes.{edition_for, header_refusal, header_word, header_of}
 use Rattle.records.specs.Record.{records, has_zero}
-use Rattle.wide.specs.Editions.{size, view, wires, spare_in}
+use Rattle.wide.specs.Editions.{size, view, spare_in}
 use Rattle.chip.specs.Chip.{chip_of}
 use Rattle.answers.specs.declared.Verdict.{Verdict}
-use Rattle.rules.specs.Power.{Line, last_of, line_verdict}
+use Rattle.rules.specs.Past.{Past, edge, recording}
+use Rattle.rules.specs.Verdict.{shown_verdict}
 
 -- the six bytes of the header, or fewer, and the bytes behind them
 abbrev pub header_bytes : List ℕ → List ℕ
@@ -15,17 +16,13 @@ header_bytes bs = take 6 bs
 abbrev pub body : List ℕ → List ℕ
 body bs = drop 6 bs
 
--- the records of a section's bytes as a rank sees them, with RESET, latest first
-abbrev pub line_of : (edition : ℕ) (second : Bool) → List ℕ → Line
-line_of e second bs = reverse (wires e second bs)
-
--- those of the recording
-abbrev pub line : (second : Bool) → List ℕ → Line
-line second bs = line_of (edition_for bs) second (body bs)
+-- the records as a rank sees them, latest first
+abbrev pub past : (second : Bool) → List ℕ → Past
+past second bs = recording (view (edition_for bs) second (body bs))
 
 -- | 8 | end edge before the last record's, or above 2^44 |
 abbrev pub end_refusal : List ℕ → (end : ℕ) → ℕ
-end_refusal bs end = cond (ltb end (last_of (line false bs)) || ltb 17592186044416 end) 8 0
+end_refusal bs end = cond (ltb end (edge (past false bs)) || ltb 17592186044416 end) 8 0
 
 -- | 5 | section length not a multiple of 6 |, or in edition 2 of 8, and | 7 | records would pass the limit |, of 1,048,576; then 6, 14 and 8
 unfoldable pub records_refusal : List ℕ → (end : ℕ) → ℕ
@@ -49,6 +46,6 @@ needed bs = cond (eqb (edition_for bs) 2) 40 20
 unfoldable pub judge_code : List ℕ → (end room : ℕ) → ℕ
 judge_code bs end room = cond (ltb room (needed bs)) 9 (whole_refusal bs end)
 
--- a rank's verdict by the 32 rules, looking back over all of the recording
+-- a rank's verdict by the 31 rules, looking back over all of the recording
 unfoldable pub whole_verdict : (second : Bool) → List ℕ → (end : ℕ) → Verdict
-whole_verdict second bs end = line_verdict (chip_of (header_of (header_word (header_bytes bs)))) (line second bs) end
+whole_verdict second bs end = shown_verdict (chip_of (header_of (header_word (header_bytes bs)))) (past second bs) end

@@ -13,14 +13,13 @@ use Rattle.chip.specs.Chip.{chip_of}
 use Rattle.running.specs.Ranges.{limit, last_edge}
 use Rattle.running.specs.Said.{no_verdict}
 use Rattle.running.specs.Ends.{no_end}
-use Rattle.edges.specs.declared.Stretch.{Stretch}
-use Rattle.edges.specs.Stretch.{counted, reached, so_far_in}
+use Rattle.edges.specs.declared.Rank.{Rank}
+use Rattle.edges.specs.Step.{so_far}
 use Rattle.judge.specs.declared.State.{State}
 use Rattle.judge.specs.Calls.{of_second, section_of, closed, not_closed, close_of}
-use Rattle.rules.specs.Power.{Line, last_of, count_of, line_so_far, line_answer}
-use Rattle.carries.specs.Waited.{Waited}
-use Rattle.carries.specs.Lines.{line_standing}
-use Rattle.sections.specs.Recording.{line_of}
+use Rattle.rules.specs.Past.{edge, recording}
+use Rattle.rules.specs.Verdict.{verdict_so_far, answer}
+use Rattle.carries.specs.Waited.{standing, Waited}
 
 -- opening takes the header h
 abbrev pub Opens : (header : List ℕ) → Header → Type 0
@@ -51,26 +50,26 @@ run = cuts.run after
 abbrev pub taken : State → List (List ℕ) → List ℕ
 taken = cuts.taken after refused
 
--- What is to be had of a rank, by the rules, where the records that it has seen are those of the line: what it counts, the verdict so far, and
--- the waiting times of its stretch (after a break those just before the broken edge).
-pub record Stood (C : Chip) (ws : Line) (s : Stretch) : Type 0 where
-  pub records : counted s ≡ count_of ws
-  pub last : reached s ≡ last_of ws
-  pub so_far : so_far_in s ≡ line_so_far C ws
-  pub waits : Waited C s.rank (line_standing C ws)
+-- What is to be had of a rank, by the rules, where the records that it has seen are those of the bytes bs: what it counts, the verdict so far, and
+-- the waiting times (after a break those just before the broken edge).
+pub record Stood (C : Chip) (bs : List ℕ) (n : Rank) : Type 0 where
+  pub counted : n.count ≡ length bs / 6
+  pub last : n.edge ≡ edge (recording bs)
+  pub so-far : so_far n ≡ verdict_so_far C (recording bs)
+  pub waits : Waited C n (standing C (recording bs))
 
 -- And of a state after the bytes bs: each rank, which sections it refuses, the verdicts after one that it takes, and closing, in one equation: the
 -- refusal 8, or of each rank the verdict, the banks, the registers and the debt. 17 is none of the answers.
 pub record Judges (h : Header) (e : ℕ) (bs : List ℕ) (s : State) : Type 0 where
-  pub first-rank : Stood (chip_of h) (line_of e false bs) s.one
-  pub second-rank : Stood (chip_of h) (line_of e true bs) s.two
-  pub records : counted s.one ≡ length bs / size e
+  pub first-rank : Stood (chip_of h) (view e false bs) s.one
+  pub second-rank : Stood (chip_of h) (view e true bs) s.two
+  pub counted : s.one.count ≡ length bs / size e
   pub refused-is : (xs : List ℕ) → refused s xs ≡ refusal e (length bs / size e) xs
   pub unaltered : (xs : List ℕ) → (refused s xs ≡ 0 → ⊥) → after s xs ≡ s
-  pub verdict : (xs : List ℕ) → refused s xs ≡ 0 → (section_of s xs).verdict ≡ line_so_far (chip_of h) (line_of e false (bs ++ xs))
+  pub verdict : (xs : List ℕ) → refused s xs ≡ 0 → (section_of s xs).verdict ≡ verdict_so_far (chip_of h) (recording (view e false (bs ++ xs)))
   pub second : (xs : List ℕ) → refused s xs ≡ 0
-      → (section_of s xs).second ≡ of_second e (line_so_far (chip_of h) (line_of e true (bs ++ xs))) no_verdict
+      → (section_of s xs).second ≡ of_second e (verdict_so_far (chip_of h) (recording (view e true (bs ++ xs)))) no_verdict
   pub close : (end : ℕ) →
       close_of s end
-      ≡ cond (ltb end (last_of (line_of e false bs)) || ltb last_edge end) (not_closed 8)
-      (closed (line_answer (chip_of h) (line_of e false bs) end) (of_second e (line_answer (chip_of h) (line_of e true bs) end) no_end))
+      ≡ cond (ltb end (edge (recording (view e false bs))) || ltb last_edge end) (not_closed 8)
+      (closed (answer (chip_of h) (recording (view e false bs)) end) (of_second e (answer (chip_of h) (recording (view e true bs)) end) no_end))

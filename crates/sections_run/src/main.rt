@@ -136,10 +136,10 @@ fn taken(run: Run, print: u8, section: &[u8]) -> Run {
 }
 
 fn waits(s: State) {
-    let one = s.one.rank.waits;
-    show::waits(one, s.one.base);
+    let one = s.one.waits;
+    show::waits(one);
     if s.edition == 2 {
-        let two = s.two.rank.waits;
-        show::waits(two, s.two.base);
+        let two = s.two.waits;
+        show::waits(two);
     }
 }

@@ -22,38 +22,26 @@ pub(crate) fn so_far(t: Taken) {
 }
 
 // Eight of an ACT, of a RD, of a WR and of a PRE, then those of a REF, an MRS, a ZQ and an SRE.
-// As edges of the recording; 0: none.
-pub(crate) fn waits(w: Waits, base: u64) {
+pub(crate) fn waits(w: Waits) {
     let act = w.act;
     let col = w.col;
     let pre = w.pre;
     let holds = w.holds;
-    edge(base, act[0]);
-    numbers(base, &act, 1);
-    numbers(base, &col, 0);
-    numbers(base, &pre, 0);
-    numbers(base, &holds, 0);
+    io::print_decimal(STDOUT_FILENO, act[0]);
+    numbers(&act, 1);
+    numbers(&col, 0);
+    numbers(&pre, 0);
+    numbers(&holds, 0);
     put(b"\n");
 }
 
-fn numbers(base: u64, all: &[u64], from: usize) {
+fn numbers(all: &[u64], from: usize) {
     let mut i = from;
     while i < all.len() {
         put(b" ");
-        edge(base, all[i]);
+        io::print_decimal(STDOUT_FILENO, all[i]);
         i += 1;
     }
-}
-
-fn edge(base: u64, at: u64) {
-    io::print_decimal(
-        STDOUT_FILENO,
-        if at == 0 {
-            0
-        } else {
-            std::num::wrapping_add_u64(base, at)
-        },
-    );
 }
 
 pub(crate) fn close(run: Run, whole: bool, end: u64) {
@@ -62,7 +50,7 @@ pub(crate) fn close(run: Run, whole: bool, end: u64) {
         return;
     }
     let state = run.state;
-    let c = state.close(if end == LAST { state.last() } else { end });
+    let c = state.close(if end == LAST { state.one.edge } else { end });
     if c.refused != 0 {
         refusal(c.refused);
         return;

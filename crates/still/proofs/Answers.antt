@@ -11,17 +11,11 @@ use Rattle.running.specs.Ends.{no_end, registers_of}
 use Rattle.edges.specs.declared.Rank.{Rank}
 use Rattle.edges.specs.Ranges.{rank_in_range}
 use Rattle.edges.specs.Step.{so_far}
-use Rattle.edges.specs.Ends.{fresh_rank, risen_rank, spoilt_rank}
-use Rattle.still.specs.Promises.{Fresh, Risen, Spoilt, InRange, IsSmall, NoEnd, RegistersOf, SoFar}
+use Rattle.edges.specs.Ends.{fresh_rank}
+use Rattle.still.specs.Promises.{Fresh, InRange, IsSmall, NoEnd, RegistersOf, SoFar}
 
 pub fresh-unique : (level : Bool) (due gap : ℕ) → Unique (Fresh level due gap)
 fresh-unique level due gap = one_answer (fresh_rank level due gap)
-
-pub risen-unique : (C : Chip) → Unique (Risen C)
-risen-unique C = one_answer (risen_rank C)
-
-pub spoilt-unique : (C : Chip) → Unique (Spoilt C)
-spoilt-unique C = one_answer (spoilt_rank C)
 
 pub in-range-unique : (n : Rank) → Unique (InRange n)
 in-range-unique n = one_answer (rank_in_range n)

@@ -13,19 +13,11 @@ use Rattle.running.specs.Ends.{no_end, registers_of}
 use Rattle.edges.specs.declared.Rank.{Rank}
 use Rattle.edges.specs.Ranges.{rank_in_range}
 use Rattle.edges.specs.Step.{so_far}
-use Rattle.edges.specs.Ends.{fresh_rank, risen_rank, spoilt_rank}
+use Rattle.edges.specs.Ends.{fresh_rank}
 
 -- `fresh`
 abbrev pub Fresh : (level : Bool) (due gap : ℕ) (r : Rank) → Type 0
 Fresh level due gap r = r ≡ fresh_rank level due gap
-
--- `risen`
-abbrev pub Risen : (chip : Chip) (r : Rank) → Type 0
-Risen chip r = r ≡ risen_rank chip
-
--- `spoilt`
-abbrev pub Spoilt : (chip : Chip) (r : Rank) → Type 0
-Spoilt chip r = r ≡ spoilt_rank chip
 
 -- `in_range`
 abbrev pub InRange : (s : Rank) (r : Bool) → Type 0

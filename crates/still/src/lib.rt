@@ -1,9 +1,9 @@
-// A rank at rest: before its first record and after the rise that ends a reset, its ranges, its registers and the verdict so far. Nothing here adds clocks to an edge, so nothing asks
+// A rank at rest: before its first record, its ranges, its registers and the verdict so far. Nothing here adds clocks to an edge, so nothing asks
 // ranges of its callers.
 mod opening;
 mod ranges;
 mod shown;
 
-pub use opening::{fresh, risen, spoilt};
+pub use opening::fresh;
 pub use ranges::{in_range, is_small};
 pub use shown::{no_end, registers_of, so_far};

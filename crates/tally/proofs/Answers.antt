@@ -1,15 +1,10 @@
 -- One answer for each public contract.
 -- Assumes nothing.
-use Rattle.std.proofs.Common.{ℕ, Bool, false, List}
+use Rattle.std.proofs.Common.{ℕ, Bool, List}
 use Rattle.laws.proofs.Unique.{Unique, one_answer}
 use Rattle.records.specs.declared.Record.{Record}
 use Rattle.records.specs.Record.{words}
-use Rattle.wide.specs.Resets.{wide_in}
-use Rattle.wide.specs.Editions.{wired_of, wires}
 use Rattle.tally.specs.declared.Tally.{Tally}
-use Rattle.tally.specs.declared.Course.{Course}
-use Rattle.tally.specs.Course as course
-use Rattle.tally.specs.Course.{wired, next_of, kind_in, course_after}
 use Rattle.tally.specs.Kinds.{kind_at}
 use Rattle.tally.specs.Tally.{start, section_of}
 use Rattle.tally.specs.declared.Reached.{Reached}
@@ -17,31 +12,13 @@ use Rattle.tally.specs.Walk as found
 use Rattle.tally.specs.Refused.{refused_at}
 use Rattle.tally.specs.declared.Spot.{Spot}
 use Rattle.tally.specs.Places.{start_of, begun_of, passed_of, find_of}
-use Rattle.tally.specs.Promises.{TallyStart, TallySection, TallyWide, CourseStart, CourseNext, CourseKind, CourseWide, KindWide, KindAt, ReachedStart, ReachedNext, ReachedFound, RefusedAt, SpotStart, SpotBegun, SpotPassed, SpotFind}
+use Rattle.tally.specs.Promises.{TallyStart, TallySection, KindAt, ReachedStart, ReachedNext, ReachedFound, RefusedAt, SpotStart, SpotBegun, SpotPassed, SpotFind}
 
 pub start-unique : Unique TallyStart
 start-unique = one_answer start
 
 pub section-unique : (t : Tally) (bytes : List ℕ) → Unique (TallySection t bytes)
-section-unique t bytes = one_answer (section_of 1 false t bytes)
-
-pub wide-section-unique : (t : Tally) (second : Bool) (bytes : List ℕ) → Unique (TallyWide t second bytes)
-wide-section-unique t second bytes = one_answer (section_of 2 second t bytes)
-
-pub course-unique : Unique CourseStart
-course-unique = one_answer course.start
-
-pub onward-unique : (c : Course) (reset : Bool) (r : Record) → Unique (CourseNext c reset r)
-onward-unique c reset r = one_answer (next_of c (wired reset r))
-
-pub reset-kind-unique : (c : Course) (reset : Bool) (r : Record) → Unique (CourseKind c reset r)
-reset-kind-unique c reset r x y p q = one_answer (kind_in c (wired reset r)) x y p.0 q.0
-
-pub wide-passed-unique : (c : Course) (second : Bool) (bytes : List ℕ) → Unique (CourseWide c second bytes)
-wide-passed-unique c second bytes = one_answer (course_after c (wires 2 second bytes))
-
-pub wide-kind-unique : (c : Course) (second : Bool) (bytes : List ℕ) (at : ℕ) → Unique (KindWide c second bytes at)
-wide-kind-unique c second bytes at x y p q = one_answer (kind_in c (wired_of second (wide_in bytes at))) x y p.0 q.0
+section-unique t bytes = one_answer (section_of t bytes)
 
 pub kind-unique : (before asleep : Bool) (r : Record) → Unique (KindAt before asleep r)
 kind-unique before asleep r x y p q = one_answer (kind_at before asleep r) x y p.0 q.0

@@ -1,8 +1,7 @@
 -- The loops, and what a tally says of a recording.
 pub mod Ranging
-pub mod TwentyOne
-pub mod Lines
 pub mod Folds
+pub mod Nineteen
 pub mod Cuts
 pub mod Walking
 pub mod Going

@@ -1,5 +1,4 @@
 pub mod Kinds
-pub mod Course
 pub mod Tally
 pub mod Counts
 pub mod Walk

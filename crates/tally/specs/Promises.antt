@@ -1,12 +1,9 @@
 -- What each public function answers, by name: cited by its `ensures`, and by its line in `proofs/Answers.antt` that two answers are
 -- equal.
 -- Assumes nothing.
-use Rattle.std.specs.Prelude.{◌≡◌, ℕ, ◌<◌, Bool, false, List}
+use Rattle.std.specs.Prelude.{◌≡◌, ℕ, ◌<◌, Bool, List}
 use Rattle.records.specs.declared.Record.{Record}
 use Rattle.records.specs.Record.{words}
-use Rattle.wide.specs.Resets.{wide_in}
-use Rattle.wide.specs.Editions.{wired_of, wires}
-use Rattle.tally.specs.declared.Course.{Course}
 use Rattle.tally.specs.declared.Tally.{Tally}
 use Rattle.tally.specs.declared.Tallied.{Tallied}
 use Rattle.tally.specs.declared.Reached.{Reached}
@@ -14,8 +11,6 @@ use Rattle.tally.specs.declared.Found.{Found}
 use Rattle.tally.specs.declared.Spot.{Spot}
 use Rattle.tally.specs.declared.Sought.{Sought}
 use Rattle.tally.specs.Kinds.{kind_at}
-use Rattle.tally.specs.Course as course
-use Rattle.tally.specs.Course.{wired, next_of, kind_in, course_after}
 use Rattle.tally.specs.Tally as tally
 use Rattle.tally.specs.Walk as walk
 use Rattle.tally.specs.Refused.{refused_at}
@@ -25,35 +20,11 @@ use Rattle.tally.specs.Places.{start_of, begun_of, passed_of, find_of}
 abbrev pub TallyStart : (r : Tally) → Type 0
 TallyStart r = r ≡ tally.start
 
--- `Tally::section`: of edition 1
+-- `Tally::section`
 abbrev pub TallySection : (t : Tally) (bytes : List ℕ) (r : Tallied) → Type 0
-TallySection t bytes r = r ≡ tally.section_of 1 false t bytes
+TallySection t bytes r = r ≡ tally.section_of t bytes
 
--- `Tally::wide_section`: of edition 2
-abbrev pub TallyWide : (t : Tally) (second : Bool) (bytes : List ℕ) (r : Tallied) → Type 0
-TallyWide t second bytes r = r ≡ tally.section_of 2 second t bytes
-
--- `Course::start`
-abbrev pub CourseStart : (c : Course) → Type 0
-CourseStart c = c ≡ course.start
-
--- `Course::next`
-abbrev pub CourseNext : (c : Course) (reset : Bool) (r : Record) (n : Course) → Type 0
-CourseNext c reset r n = n ≡ next_of c (wired reset r)
-
--- `Course::kind`; it is one of the twenty-one places of a tally
-abbrev pub CourseKind : (c : Course) (reset : Bool) (r : Record) (k : ℕ) → Type 0
-CourseKind c reset r k = (k ≡ kind_in c (wired reset r)) × (k < 21)
-
--- `Course::wide_passed`
-abbrev pub CourseWide : (c : Course) (second : Bool) (bytes : List ℕ) (r : Course) → Type 0
-CourseWide c second bytes r = r ≡ course_after c (wires 2 second bytes)
-
--- `Course::wide_kind`
-abbrev pub KindWide : (c : Course) (second : Bool) (bytes : List ℕ) (at k : ℕ) → Type 0
-KindWide c second bytes at k = (k ≡ kind_in c (wired_of second (wide_in bytes at))) × (k < 21)
-
--- `kind_at`; it is one of the nineteen kinds of commands
+-- `kind_at`; it is one of the nineteen places of a tally
 abbrev pub KindAt : (level sleeps : Bool) (r : Record) (k : ℕ) → Type 0
 KindAt level sleeps r k = (k ≡ kind_at level sleeps r) × (k < 19)
 

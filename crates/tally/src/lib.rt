@@ -1,19 +1,15 @@
 // How many records of each command a recording has, carried over its sections as the judge's state is: 01, "Commands and the 25
-// rules", first paragraph, and 02, Q-1 and Q-8. A count's place in the tally is the kind that `Course::kind` gives. And where a record stands.
+// rules", first paragraph, and 02, Q-1. A count's place in the tally is the kind that `kind_of` gives. And where a record stands.
 mod places;
 mod refused;
-mod resets;
 mod walk;
 
 ghost use Rattle.std.specs.Prelude.{◌≡◌, ◌+◌, ◌<◌, ◌≤◌, length, if◌then◌else◌};
 ghost use Rattle.records.specs.Record.{records, record_at};
-ghost use Rattle.records.specs.Wired.{highs};
 ghost use Rattle.records.specs.Command.{asleep_after};
-ghost use Rattle.wide.specs.Editions.{wires};
 ghost use Rattle.tally.specs.Kinds.{kind_of};
-ghost use Rattle.tally.specs.Course.{wired};
 ghost use Rattle.tally.specs.Tally as defs;
-ghost use Rattle.tally.specs.Promises.{TallyStart, TallySection, TallyWide, KindAt};
+ghost use Rattle.tally.specs.Promises.{TallyStart, TallySection, KindAt};
 
 use records::{Command, Record};
 pub use refused::refused_at;
@@ -21,21 +17,12 @@ pub use refused::refused_at;
 // A count above this is refused: from there a sum could wrap.
 const LARGEST: u64 = 1152921504606846976;
 
-// What the records so far leave behind for the kind of the next. power: 0 no reset so far, or CKE has risen after the last; 1 RESET is low; 2 it is
-// high again, and CKE low; 3 it is high again, and CKE has not been low since. Then the CKE level, and whether the part sleeps: in reset the
-// part is to start anew, with CKE high and awake.
-#[derive(Drop)]
-pub struct Course {
-    pub power: u64,
-    pub level: bool,
-    pub sleeps: bool,
-}
-
-// What the records so far leave behind, and the number of records of each kind.
+// The CKE level after the records so far, whether the part sleeps, and the number of records of each kind.
 #[derive(Drop)]
 pub struct Tally {
-    pub course: Course,
-    pub counts: [u64; 21],
+    pub level: bool,
+    pub sleeps: bool,
+    pub counts: [u64; 19],
 }
 
 // refused is 0 or the number of the check that failed; then the tally is the one handed in.
@@ -95,14 +82,15 @@ impl Tally {
     pub fn start() -> Tally
         ensures { TallyStart result }
     {
-        let counts = [0u64; 21];
+        let counts = [0u64; 19];
         Tally {
-            course: Course::start(),
+            level: true,
+            sleeps: false,
             counts: counts,
         }
     }
 
-    // Checks 17, 5; then the section's records are counted. It is one of edition 1, which has no RESET.
+    // Checks 17, 5; then the section's records are counted.
     pub fn section(self, bytes: &[u8]) -> Tallied
         ensures { TallySection self bytes.now result }
     {
@@ -114,24 +102,6 @@ impl Tally {
             return refuse(5, self);
         }
         let n = fold(self, bytes);
-        Tallied {
-            refused: 0,
-            tally: n,
-        }
-    }
-
-    // Checks 17, 5; then the records of a section of edition 2 are counted, as the first or the second rank sees them.
-    pub fn wide_section(self, second: bool, bytes: &[u8]) -> Tallied
-        ensures { TallyWide self second bytes.now result }
-    {
-        let counts = self.counts;
-        if !in_range(counts) {
-            return refuse(17, self);
-        }
-        if bytes.len() % 8 != 0 {
-            return refuse(5, self);
-        }
-        let n = wide_fold(self, second, bytes);
         Tallied {
             refused: 0,
             tally: n,
@@ -149,11 +119,11 @@ fn refuse(n: u64, t: Tally) -> Tallied
 }
 
 // Is no count above the largest?
-fn in_range(counts: [u64; 21]) -> bool
+fn in_range(counts: [u64; 19]) -> bool
     ensures { result ≡ defs.in_range counts }
 {
     let mut i: usize = 0;
-    while i < 21 {
+    while i < 19 {
         if LARGEST < counts[i] {
             return false;
         }
@@ -163,44 +133,19 @@ fn in_range(counts: [u64; 21]) -> bool
 }
 
 fn fold(t: Tally, bytes: &[u8]) -> Tally
-    requires { defs.Ready 6 t bytes.now }
-    ensures { result ≡ defs.fold_of t (highs (records bytes.now)) }
+    requires { defs.Ready t bytes.now }
+    ensures { result ≡ defs.fold_of t (records bytes.now) }
 {
     let mut n = t;
     let mut at: usize = 0;
     while at < bytes.len() {
         let r = record_at(bytes, at);
+        let k = kind_at(n.level, n.sleeps, r);
         at += 6;
-        n = counted(n, true, r);
+        n.sleeps = sleeps_after(n.level, n.sleeps, r);
+        n.level = r.cke;
+        n.counts[k] = n.counts[k] + 1;
     }
-    n
-}
-
-fn wide_fold(t: Tally, second: bool, bytes: &[u8]) -> Tally
-    requires { defs.Ready 8 t bytes.now }
-    ensures { result ≡ defs.fold_of t (wires 2 second bytes.now) }
-{
-    let mut n = t;
-    let mut at: usize = 0;
-    while at < bytes.len() {
-        let w = wide::wide_at(bytes, at);
-        let r = resets::seen_by(second, w);
-        at += 8;
-        n = counted(n, w.reset, r);
-    }
-    n
-}
-
-// One more of the record's kind.
-fn counted(t: Tally, reset: bool, r: Record) -> Tally
-    requires { defs.Roomy t }
-    ensures { result ≡ defs.step_of t (wired reset r) }
-{
-    let c = t.course;
-    let k = c.kind(reset, r);
-    let mut n = t;
-    n.course = c.next(reset, r);
-    n.counts[k] = n.counts[k] + 1;
     n
 }
 

@@ -1,6 +1,7 @@
 -- Opening counts no record; a section that is taken adds its records to the count, and keeps the limit.
 -- Assumes nothing.
 use Prim.Native.Nat.{ℕ, zero, suc, ◌+◌, ◌*◌, ◌/◌, ◌%◌, ◌≤◌}
+use native.Mathlib.Nat.{add-zero}
 use native.Mathlib.Decide.{ℕ_discrete}
 use native.Mathlib.Omega.{arith}
 use mathlib.Core.Bool.{Bool, true, false, cond}
@@ -8,15 +9,17 @@ use mathlib.Core.List.{List, [], ◌∷◌}
 use mathlib.Core.Path.{◌≡◌, refl, sym, ap, ◌∙◌}
 use borrow.Author.Tests.{ltb-false, eq-eqb, ne_eqb}
 use lib.Dec.{eqb, ltb}
-use lib.ListN.{length, drop, length-take, length-drop, length-map}
+use lib.ListN.{length, drop, length-take, length-drop}
 use lib.ListN.{take as firsts}
+use Rattle.answers.specs.declared.Verdict.{Verdict}
+use Rattle.chip.specs.declared.Chip.{Chip}
 use Rattle.chip.specs.Chip.{chip_of}
+use Rattle.records.specs.declared.Record.{Record}
 use Rattle.records.specs.Record.{records, has_zero}
 use Rattle.records.proofs.Records.{length-records}
-use Rattle.wide.specs.Editions.{size, view, wires, spare_in, refusal}
+use Rattle.wide.specs.Editions.{size, view, spare_in, refusal}
 use Rattle.wide.proofs.Editions.{view-count}
-use Rattle.wide.proofs.Wiring.{wires-view}
-use Rattle.edges.specs.Stretch.{counted}
+use Rattle.edges.specs.declared.Rank.{Rank}
 use Rattle.judge.specs.declared.State.{State}
 use Rattle.header.specs.declared.Parsed.{Parsed}
 use Rattle.header.specs.declared.Parsed.TheVariants.{Taken as TakenHeader, Refused}
@@ -25,7 +28,9 @@ use Rattle.edges.specs.Ends.{fresh_rank}
 use Rattle.judge.specs.Calls.{opened_by, open_of, refuse, folded, taken_by, section_of}
 use Rattle.running.specs.Ranges.{limit}
 use Rattle.judge.specs.Ranges.{in_range}
-use Rattle.judge.proofs.Keeping.{after-goes}
+use Rattle.running.specs.Said.{is_clean}
+use Rattle.edges.specs.Says.{says_of}
+use Rattle.edges.specs.Step.{moved_of, stopped_of, step_of, fold_of}
 use Rattle.program.specs.declared.Run.{Run}
 use Rattle.program.specs.Program.{opened_run, ran_over}
 use Rattle.program.proofs.Blocks.{after, goes, had-more, was-full}
@@ -33,8 +38,24 @@ use Rattle.verdict.specs.Reading.{Opened, Took}
 
 -- a full section was taken: 750 records more at least, those of edition 2, within the limit
 pub record Full (before after : State) : Type 0 where
-  pub more : counted before.one + 750 ≤ counted after.one
-  pub within : counted after.one ≤ limit
+  pub more : before.one.count + 750 ≤ after.one.count
+  pub within : after.one.count ≤ limit
+
+module _ (C : Chip) where
+  by_cases : (s : Rank) (r : Record) (v w : Verdict) (x y : Bool)
+      → (cond x (cond y (moved_of C s r) (stopped_of s r v)) (stopped_of s r w)).count ≡ s.count + 1
+  unfolding moved_of stopped_of
+  by_cases s r v w true true = refl
+  by_cases s r v w true false = refl
+  by_cases s r v w false y = refl
+
+  one_more_lem : (s : Rank) (r : Record) → (step_of C s r).count ≡ s.count + 1
+  unfolding step_of
+  one_more_lem s r = by_cases s r _ _ (is_clean s.first) (is_clean (says_of C s r))
+
+  all_more : (s : Rank) (rs : List Record) → (fold_of C s rs).count ≡ s.count + length rs
+  all_more s [] = sym (add-zero s.count)
+  all_more s (r ∷ rs) = omega (arith, all_more (step_of C s r) rs, one_more_lem s r)
 
 -- a section that is not refused keeps the limit
 room : (e n : ℕ) (bs : List ℕ) → refusal e n bs ≡ 0 → n + length bs / size e ≤ limit
@@ -57,33 +78,30 @@ least e bs full = go (eqb e 2)
     go false = omega (arith, full)
 
 module _ (s : State) (bs : List ℕ) (full : length bs ≡ 6000) where
-  long : length (wires s.edition false bs) ≡ length bs / size s.edition
-  long =
+  counted : (folded s bs).one.count ≡ s.one.count + length bs / size s.edition
+  counted =
       let seen = view s.edition false bs in
-      sym (length-map (wires s.edition false bs) _) ∙ ap length (wires-view s.edition false bs) ∙ length-records seen ∙ view-count s.edition bs
+      omega (arith, all_more (chip_of s.header) s.one (records seen), length-records seen, view-count s.edition bs)
 
-  all-counted : counted (folded s bs).one ≡ counted s.one + length bs / size s.edition
-  all-counted = (after-goes (chip_of s.header) (wires s.edition false bs) s.power s.one).0 ∙ ap (λ (n : ℕ). counted s.one + n) long
-
-  picked : (a : Bool) (n : ℕ) → n ≡ refusal s.edition (counted s.one) bs → (cond a (taken_by n s bs) (refuse 17 s)).refused ≡ 0
+  picked : (a : Bool) (n : ℕ) → n ≡ refusal s.edition s.one.count bs → (cond a (taken_by n s bs) (refuse 17 s)).refused ≡ 0
       → Full s (cond a (taken_by n s bs) (refuse 17 s)).state
   picked false n e z = absurd (omega arith)
   picked true n e z = elim (ℕ_discrete n 0) [
     | no q ↦ absurd (q (rw (ne_eqb n 0 q) at z))
     | yes q ↦
-        let fits = room s.edition (counted s.one) bs (sym e ∙ q) in
-        rw (eq-eqb n 0 q) (record { more = omega (arith, all-counted, least s.edition bs full); within = omega (arith, all-counted, fits) })
+        let fits = room s.edition s.one.count bs (sym e ∙ q) in
+        rw (eq-eqb n 0 q) (record { more = omega (arith, counted, least s.edition bs full); within = omega (arith, counted, fits) })
   ]
 
   pub taken-full : (section_of s bs).refused ≡ 0 → Full s (section_of s bs).state
   unfolding section_of
-  taken-full z = picked (in_range s) (refusal s.edition (counted s.one) bs) refl z
+  taken-full z = picked (in_range s) (refusal s.edition s.one.count bs) refl z
 
 -- sections in turn, and there may be more: all were full, and taken
 pub record Filled (n : ℕ) (r : Run) (bs : List ℕ) : Type 0 where
   pub bytes : n * 6000 ≤ length bs
-  pub records : counted r.state.one + n * 750 ≤ counted (ran_over n r bs).state.one
-  pub within : counted r.state.one ≤ limit → counted (ran_over n r bs).state.one ≤ limit
+  pub records : r.state.one.count + n * 750 ≤ (ran_over n r bs).state.one.count
+  pub within : r.state.one.count ≤ limit → (ran_over n r bs).state.one.count ≤ limit
 
 pub filled : (n : ℕ) (r : Run) (bs : List ℕ) → (ran_over n r bs).more ≡ true → Filled n r bs
 unfolding ran_over
@@ -94,7 +112,7 @@ filled (suc n) r bs h =
     let was = was-full r.state (firsts 6000 bs) (had-more n (after r bs) (drop 6000 bs) later) in
     let one = taken-full r.state (firsts 6000 bs) was.1 was.0 in
     let rest = filled n (after r bs) (drop 6000 bs) later in
-    let same : counted (ran_over (suc n) r bs).state.one ≡ counted (ran_over n (after r bs) (drop 6000 bs)).state.one = ap (λ (q : Run). counted q.state.one) is in
+    let same : (ran_over (suc n) r bs).state.one.count ≡ (ran_over n (after r bs) (drop 6000 bs)).state.one.count = ap (λ (q : Run). q.state.one.count) is in
     record {
       bytes = omega (arith, rest.bytes, was.1, length-take 6000 bs, length-drop 6000 bs);
       records = omega (arith, same, rest.records, one.more);
@@ -102,17 +120,17 @@ filled (suc n) r bs h =
     }
 
 -- opening counts no record
-by-header : (e : ℕ) (p : Parsed) → counted (opened_by e p).state.one ≡ 0
+by-header : (e : ℕ) (p : Parsed) → (opened_by e p).state.one.count ≡ 0
 unfolding fresh_rank
 by-header e (TakenHeader h) = refl
 by-header e (Refused n) = refl
 
-pub none_yet : (bs : List ℕ) → counted (open_of bs).state.one ≡ 0
+pub none_yet : (bs : List ℕ) → (open_of bs).state.one.count ≡ 0
 unfolding open_of
 none_yet bs = by-header (edition_for bs) (parsed_of (edition_for bs) bs)
 
-pub opened-none : (r : Run) → Opened r → counted r.state.one ≡ 0
-opened-none r w = ap (λ (x : Run). counted x.state.one) w.2 ∙ none_yet w.0
+pub opened-none : (r : Run) → Opened r → r.state.one.count ≡ 0
+opened-none r w = ap (λ (x : Run). x.state.one.count) w.2 ∙ none_yet w.0
 
 pub opened-by : {r : Run} (bs : List ℕ) → r ≡ opened_run bs → (n : ℕ) → n ≡ length bs → n ≤ 6 → Opened r
 opened-by bs e n size most = (bs, omega arith, e)

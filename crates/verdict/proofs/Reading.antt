@@ -11,7 +11,6 @@ use lib.Dec.{leb}
 use lib.ListN.{length, take, drop, length-append}
 use lib.Seq.{take_all, take_at, drop_at}
 use Rattle.header.specs.Bytes.{header_refusal, parsed_of}
-use Rattle.edges.specs.Stretch.{counted}
 use Rattle.judge.specs.Calls.{open_of}
 use Rattle.lines.specs.Line.{Printed}
 use Rattle.program.specs.declared.Run.{Run}
@@ -65,7 +64,7 @@ module _ (start run : Run) (read : ℕ) (w : Reads start run read) where
       }
 
   -- past the limit there is no more
-  over : counted start.state.one ≡ 0 → (run.more && leb read 1048576) ≡ false → run.more ≡ false
+  over : start.state.one.count ≡ 0 → (run.more && leb read 1048576) ≡ false → run.more ≡ false
   over zero e = go run.more refl
     where
       go : (x : Bool) → run.more ≡ x → run.more ≡ false
@@ -75,7 +74,7 @@ module _ (start run : Run) (read : ℕ) (w : Reads start run read) where
           absurd (omega (arith, zero, past, w.count, all.records, all.within (omega (arith, zero))))
       go false h = h
 
-  pub reads_end : counted start.state.one ≡ 0 → (run.more && leb read 1048576) ≡ false → Ran start run
+  pub reads_end : start.state.one.count ≡ 0 → (run.more && leb read 1048576) ≡ false → Ran start run
   reads_end zero e =
       let none = over zero e in
       let all = ended (length w.bytes + 1) start w.bytes (omega arith) in

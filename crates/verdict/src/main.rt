@@ -1,7 +1,6 @@
 // Judges the recording that standard input holds and prints one line a rank (01, P8): the first refusal, or the verdict at the last
 // record's edge. The header is read first, then sections of 6,000 bytes, ten at a time, the last perhaps shorter.
 ghost use Rattle.std.specs.Prelude.{◌≡◌, length};
-ghost use Rattle.edges.specs.Stretch.{counted};
 ghost use Rattle.verdict.specs.Reading.{Opened, Took, Ran, Judged, Told, ToldSecond};
 
 use judge::State;
@@ -34,7 +33,7 @@ fn opened() -> Run
 
 // Block after block, up to a refusal or the end of the input. Past the limit there was a refusal, so the loop ends.
 fn ran(start: Run) -> Run
-    requires { counted start.state.one ≡ 0 }
+    requires { start.state.one.count ≡ 0 }
     ensures { Ran start result }
 {
     let mut run = start;

@@ -1,6 +1,5 @@
 -- One answer for each public contract.
 -- Assumes nothing.
-use Rattle.wide.specs.Resets.{wide_in, high_to}
 use Prim.Native.Nat.{ℕ, ◌*◌, ◌/◌}
 use mathlib.Core.Bool.{Bool}
 use mathlib.Core.List.{List, ◌++◌}
@@ -14,7 +13,7 @@ use Rattle.wide.specs.Wide.{wides}
 use Rattle.wide.specs.Moved.{narrow, widen}
 use Rattle.wide.specs.Seen.{seen_of}
 use Rattle.wide.specs.Steps.{steps_seen}
-use Rattle.wide.specs.Promises.{Narrowed, NarrowPart, SplitPart, NarrowRecords, WidenRecords, SeenIn, StepsIn, StepOfZero, WideIn, HighTo}
+use Rattle.wide.specs.Promises.{Narrowed, NarrowPart, SplitPart, NarrowRecords, WidenRecords, SeenIn, StepsIn, StepOfZero}
 
 module _ {second : Bool} {before after after' : List ℕ} {r r' : Part} where
   same-narrow : {part : List ℕ} → Narrowed part second before r after → Narrowed part second before r' after' → (r ≡ r') × (after ≡ after')
@@ -52,9 +51,3 @@ steps-unique bytes = one_answer (steps_seen (wides (take 8388608 bytes)))
 
 pub zero-unique : (bytes : List ℕ) → Unique (StepOfZero bytes)
 zero-unique bytes = one_answer (has_zero (records bytes))
-
-pub wide-at-unique : (bytes : List ℕ) (at : ℕ) → Unique (WideIn bytes at)
-wide-at-unique bytes at = one_answer (wide_in bytes at)
-
-pub high-to-unique : (bytes : List ℕ) (at : ℕ) → Unique (HighTo bytes at)
-high-to-unique bytes at = one_answer (high_to bytes at)

@@ -2,8 +2,6 @@ pub mod Spreading
 pub mod Words
 pub mod WideWords
 pub mod Wides
-pub mod Resetting
-pub mod Wiring
 pub mod Moving
 pub mod Returning
 pub mod Packing

@@ -1,11 +1,9 @@
 -- The two layouts of a section's bytes, by the edition: how long a record is, and what each rank sees. 02, Q-7: "one verdict per rank, each rank
 -- seeing its own CS"; "Demand 3 and refusal 5 read 8-byte records there".
 -- Assumes nothing.
-use Rattle.wide.specs.declared.Wide.{Wide}
-use Rattle.records.specs.Wired.{Wired, highs}
-use Rattle.std.specs.Prelude.{ℕ, ◌+◌, ◌/◌, ◌%◌, Bool, false, cond, List, [], map, eqb, ltb, length}
+use Rattle.std.specs.Prelude.{ℕ, ◌+◌, ◌/◌, ◌%◌, Bool, false, cond, List, [], eqb, ltb, length}
 use Rattle.records.specs.Record.{records, has_zero}
-use Rattle.wide.specs.Wide.{wides, has_spare, rank_of}
+use Rattle.wide.specs.Wide.{wides, has_spare}
 use Rattle.wide.specs.Moved.{narrow}
 
 -- a record's bytes
@@ -15,13 +13,6 @@ size e = cond (eqb e 2) 8 6
 -- What a rank sees, as the bytes of edition 1: there the first rank sees the bytes as they are, and the second, which is not there, none.
 unfoldable pub view : (edition : ℕ) (second : Bool) → List ℕ → List ℕ
 view e second bs = cond (eqb e 2) (narrow second bs) (cond second [] bs)
-
--- What a rank sees, record by record, with RESET: edition 1 has none, so that it is high there.
-abbrev pub wired_of : (second : Bool) → Wide → Wired
-wired_of second w = record { reset = w.reset; sees = rank_of second w }
-
-unfoldable pub wires : (edition : ℕ) (second : Bool) → List ℕ → List Wired
-wires e second bs = cond (eqb e 2) (map (wired_of second) (wides bs)) (cond second [] (highs (records bs)))
 
 -- | 14 | zero bits set |: edition 1 has none
 unfoldable pub spare_in : (edition : ℕ) → List ℕ → Bool

@@ -5,5 +5,4 @@ pub mod Low
 pub mod Editions
 pub mod Seen
 pub mod Steps
-pub mod Resets
 pub mod Promises

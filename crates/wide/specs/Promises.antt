@@ -1,8 +1,6 @@
 -- What each public function answers, by name: cited by its `ensures`, and by its line in `proofs/Answers.antt` that two answers are
 -- equal.
 -- Assumes nothing.
-use Rattle.wide.specs.Resets.{wide_in, high_to}
-use Rattle.wide.specs.declared.Wide.{Wide}
 use Rattle.std.specs.Prelude.{ℕ, ◌*◌, ◌/◌, ◌≤◌, Bool, true, false, List, ◌++◌, ◌≡◌, length, take, drop}
 use Rattle.records.specs.Record.{records, has_zero}
 use Rattle.wide.specs.declared.Part.{Part}
@@ -60,11 +58,3 @@ StepsIn bytes r = r ≡ steps_seen (wides (take 8388608 bytes))
 -- `step_of_zero`
 abbrev pub StepOfZero : (bytes : List ℕ) (r : Bool) → Type 0
 StepOfZero bytes r = r ≡ has_zero (records bytes)
-
--- `wide_at_lem`
-abbrev pub WideIn : (bytes : List ℕ) (at : ℕ) (r : Wide) → Type 0
-WideIn bytes at r = r ≡ wide_in bytes at
-
--- `high_to`
-abbrev pub HighTo : (bytes : List ℕ) (at : ℕ) (r : ℕ) → Type 0
-HighTo bytes at r = r ≡ high_to bytes at

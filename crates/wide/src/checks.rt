@@ -22,7 +22,7 @@ pub fn seen_in(before: Seen, bytes: &[u8]) -> Seen
     s
 }
 
-pub(crate) fn fields(w: u64) -> Wide
+fn fields(w: u64) -> Wide
     ensures { result ≡ defs.fields_of w }
 {
     Wide {

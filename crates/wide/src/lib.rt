@@ -2,7 +2,6 @@
 mod checks;
 mod low;
 mod moved;
-mod resets;
 mod split;
 mod sums;
 
@@ -11,7 +10,6 @@ ghost use Rattle.wide.specs.Wide.{word64, word_at};
 
 pub use checks::{seen_in, step_of_zero};
 pub use moved::{narrow_part, narrow_records, widen_records};
-pub use resets::{high_to, wide_at};
 pub use split::split_part;
 pub use sums::steps_in;
 

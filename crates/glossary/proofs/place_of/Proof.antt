@@ -11,10 +11,10 @@ use Rattle.glossary.proofs.place_of.Statement.{statement}
 use Rattle.glossary.proofs.place_of.Tie as tie
 
 abbrev invariant-loop : tie.invariant-loop
-invariant-loop kind i₀ i = (i ≤ 29) × (place_from (29 - i) i kind ≡ place_of kind)
+invariant-loop kind i₀ i = (i ≤ 27) × (place_from (27 - i) i kind ≡ place_of kind)
 
 abbrev decreases-loop : tie.decreases-loop
-decreases-loop kind i₀ i = 29 - i
+decreases-loop kind i₀ i = 27 - i
 
 loop-holds : tie.Need-loop-init invariant-loop decreases-loop
 loop-holds c = (omega arith, whole _)
@@ -43,7 +43,7 @@ loop-again c =
 returns-2 : tie.Need-returns-2 invariant-loop decreases-loop
 returns-2 c =
     let l = c.before.loop in
-    let last : 29 - l.i ≡ 0 = omega (arith, c.loop-test.false) in
+    let last : 27 - l.i ≡ 0 = omega (arith, c.loop-test.false) in
     (rw last at l.invariant.1, omega (arith, l.invariant.0))
 
 pub place-of-spec : {M : Type 1} → statement M

@@ -1,6 +1,8 @@
 -- `sections_run::all` is safe and ends: a turn for each length, of four bytes.
 -- Assumes nothing.
-use Rattle.std.proofs.Common.{◌-◌, ◌≤◌, length, rules}
+use Prim.Native.Nat.{◌≤◌, ◌-◌}
+use lib.ListN.{length}
+use borrow.Author.Rules.{rules}
 use Rattle.sections_run.proofs.all.Statement.{statement}
 use Rattle.sections_run.proofs.all.Tie as tie
 

@@ -1,6 +1,6 @@
 -- `sections_run::main` is safe and ends: the count of cases left falls.
 -- Assumes nothing.
-use Rattle.std.proofs.Common.{rules}
+use borrow.Author.Rules.{rules}
 use Rattle.sections_run.proofs.main.Statement.{statement}
 use Rattle.sections_run.proofs.main.Tie as tie
 

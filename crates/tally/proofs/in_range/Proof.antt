@@ -7,10 +7,10 @@ use Rattle.tally.proofs.in_range.Statement.{statement}
 use Rattle.tally.proofs.in_range.Tie as tie
 
 abbrev invariant-loop : tie.invariant-loop
-invariant-loop counts i₀ i = (i ≤ 21) × (in_range (drop i counts) ≡ in_range counts)
+invariant-loop counts i₀ i = (i ≤ 19) × (in_range (drop i counts) ≡ in_range counts)
 
 abbrev decreases-loop : tie.decreases-loop
-decreases-loop counts i₀ i = 21 - i
+decreases-loop counts i₀ i = 19 - i
 
 loop-holds : tie.Need-loop-init invariant-loop decreases-loop
 loop-holds c = (omega arith, refl)

@@ -1,10 +1,10 @@
 -- Check 17; then by the edition.
 -- Assumes nothing.
-use borrow.Author.Rules.{rules}
 use borrow.Author.Tests.{not-true, not-false}
 use mathlib.Core.Path.{sym, ◌∙◌}
-use Rattle.judge.proofs.Ranging as ranging
 use Rattle.judge.specs.Calls.{section_of}
+use Rattle.judge.proofs.Ranging.{tested}
+use borrow.Author.Rules.{rules}
 use Rattle.judge.proofs.State.section.Statement.{statement}
 use Rattle.judge.proofs.State.section.Tie as tie
 
@@ -25,7 +25,7 @@ returns-2 : tie.Need-returns-2
 returns-2 c = search rules
 
 of-one-requires : tie.Need-of-one-requires
-of-one-requires c κs = let range = sym c.before.before.before.in-range.ensures ∙ not-false _ c.before.before.if1.false in (range, (ranging.tested _ range).only c.if2.false)
+of-one-requires c κs = let range = sym c.before.before.before.in-range.ensures ∙ not-false _ c.before.before.if1.false in (range, (tested _ range).only c.if2.false)
 
 returns-3 : tie.Need-returns-3
 returns-3 c = search rules

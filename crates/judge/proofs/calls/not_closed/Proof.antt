@@ -8,7 +8,7 @@ no-end-requires : tie.Need-no-end-requires
 no-end-requires c κs = search rules
 
 returns : tie.Need-returns
-returns c = simp c.no_end.ensures
+returns c = simp c.no-end.ensures
 
 pub not-closed-spec : {M : Type 1} → statement M
 not-closed-spec = tie.close (tie.spec no-end-requires returns)

@@ -1,16 +1,15 @@
 -- By the edition.
 -- Assumes nothing.
-use Rattle.judge.proofs.Ranging as ranging
 use borrow.Author.Tests.{eq-eqb, ne_eqb}
 use borrow.Author.Rules.{rules}
 use Rattle.judge.proofs.calls.second_verdict.Statement.{statement}
 use Rattle.judge.proofs.calls.second_verdict.Tie as tie
 
 so-far-requires : tie.Need-so-far-requires
-so-far-requires c κs = let t = (ranging.tested c.before.before.args.s c.before.before.requires).second c.if1.true in ranging.in-stretch c.before.before.args.s.two t.second
+so-far-requires c κs = search rules
 
 returns : tie.Need-returns
-returns c = rw (eq-eqb _ _ c.before.if1.true) c.so_far.ensures
+returns c = rw (eq-eqb _ _ c.before.if1.true) c.so-far.ensures
 
 none-requires : tie.Need-none-requires
 none-requires c κs = search rules

@@ -8,23 +8,20 @@ use Rattle.kept.proofs.spacing.of_sre.Tie as tie
 rule23-requires : tie.Need-rule23-requires
 rule23-requires c κs = search rules
 
-woken-requires : tie.Need-woken-requires
-woken-requires c κs = search rules
+spaced-requires : tie.Need-spaced-requires
+spaced-requires c κs = search rules
 
 as19-requires : tie.Need-as19-requires
 as19-requires c κs = search rules
 
-spaced-requires : tie.Need-spaced-requires
-spaced-requires c κs = search rules
-
 spaced-requires-2 : tie.Need-spaced-requires-2
 spaced-requires-2 c κs = search rules
 
-needing-requires : tie.Need-needing-requires
-needing-requires c κs = search rules
-
 spaced-requires-3 : tie.Need-spaced-requires-3
 spaced-requires-3 c κs = search rules
+
+needing-requires : tie.Need-needing-requires
+needing-requires c κs = search rules
 
 spaced-requires-4 : tie.Need-spaced-requires-4
 spaced-requires-4 c κs = search rules
@@ -32,21 +29,24 @@ spaced-requires-4 c κs = search rules
 spaced-requires-5 : tie.Need-spaced-requires-5
 spaced-requires-5 c κs = search rules
 
+spaced-requires-6 : tie.Need-spaced-requires-6
+spaced-requires-6 c κs = search rules
+
 returns : tie.Need-returns
 unfolding spacings waits
-returns c = simp (c.spaced5.ensures, c.before.spaced4.ensures, c.before.before.spaced3.ensures, c.before.before.before.needing.ensures, c.before.before.before.before.spaced2.ensures, c.before.before.before.before.before.spaced.ensures, c.before.before.before.before.before.before.as19.ensures, c.before.before.before.before.before.before.before.woken.ensures, c.before.before.before.before.before.before.before.before.rule23.ensures)
+returns c = simp (c.spaced6.ensures, c.before.spaced5.ensures, c.before.before.spaced4.ensures, c.before.before.before.needing.ensures, c.before.before.before.before.spaced3.ensures, c.before.before.before.before.before.spaced2.ensures, c.before.before.before.before.before.before.as19.ensures, c.before.before.before.before.before.before.before.spaced.ensures, c.before.before.before.before.before.before.before.before.rule23.ensures)
 
 pub of-sre-spec : {M : Type 1} → statement M
 of-sre-spec =
     tie.close
     (tie.spec
     rule23-requires
-    woken-requires
-    as19-requires
     spaced-requires
+    as19-requires
     spaced-requires-2
-    needing-requires
     spaced-requires-3
+    needing-requires
     spaced-requires-4
     spaced-requires-5
+    spaced-requires-6
     returns)

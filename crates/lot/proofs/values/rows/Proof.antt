@@ -1,14 +1,14 @@
 -- `lot::values::rows` is safe and ends: a turn for each row.
 -- Assumes nothing.
-use Rattle.std.proofs.Common.{◌-◌, rules}
+use Rattle.std.proofs.Common.{◌-◌, ◌≤◌, rules}
 use Rattle.lot.proofs.values.rows.Statement.{statement}
 use Rattle.lot.proofs.values.rows.Tie as tie
 
 abbrev invariant-loop : tie.invariant-loop
-invariant-loop counts end i₀ i = Unit
+invariant-loop counts i₀ i = i ≤ 28
 
 abbrev decreases-loop : tie.decreases-loop
-decreases-loop counts end i₀ i = end - i
+decreases-loop counts i₀ i = 28 - i
 
 loop-holds : tie.Need-loop-init invariant-loop decreases-loop
 loop-holds c = search rules

@@ -19,7 +19,7 @@ no-end-requires c κs = search rules
 
 returns : tie.Need-returns
 unfolding ended_of
-returns c = c.no_end.ensures ∙ rw (sym c.before.before.is-small.ensures ∙ not-true _ c.before.if1.true)
+returns c = c.no-end.ensures ∙ rw (sym c.before.before.is-small.ensures ∙ not-true _ c.before.if1.true)
 
 in-range-requires : tie.Need-in-range-requires
 in-range-requires c κs = search rules

@@ -2,7 +2,7 @@
 -- Assumes nothing.
 use Prim.Native.Nat.{ℕ, ◌+◌, ◌-◌, ◌≤◌}
 use native.Mathlib.Omega.{arith}
-use mathlib.Core.Path.{◌≡◌, sym, ◌∙◌, subst}
+use mathlib.Core.Path.{◌≡◌, ◌∙◌}
 use mathlib.Core.Bool.{Bool, true, false, cond, not, ◌&&◌}
 use lib.Dec.{ltb}
 use lib.ListN.{get_or}
@@ -12,8 +12,7 @@ use Rattle.records.specs.declared.Record.{Record}
 use Rattle.records.specs.declared.Command.{Command}
 use Rattle.chip.specs.declared.Chip.{Chip}
 use Rattle.chip.specs.declared.Regs.{Regs}
-use Rattle.running.specs.Order.{place_next}
-use Rattle.running.specs.Ranges.{limit, last_edge, far_edge, Small}
+use Rattle.running.specs.Ranges.{limit, last_edge, far_edge}
 use Rattle.edges.specs.declared.Acts.{Acts}
 use Rattle.edges.specs.declared.Banks.{Banks}
 use Rattle.edges.specs.declared.Debt.{Debt}
@@ -24,8 +23,7 @@ use Rattle.edges.specs.Asks.{four_back, waits_next}
 use Rattle.edges.specs.Next.{start_of, debt_next, banks_next, acts_next, device_next, slow_now, none_open}
 use Rattle.edges.specs.Ranges.{Ranged, farthest}
 use Rattle.edges.specs.Says.{command_in}
-use Rattle.edges.specs.Step.{regs_in, tuned_by, moved_of}
-use Rattle.edges.proofs.Tuning.{tuned-small}
+use Rattle.edges.specs.Step.{regs_in, moved_of}
 use borrow.Author.Rules.{rules}
 use Rattle.rank.proofs.moved.moved.Statement.{statement}
 use Rattle.rank.proofs.moved.moved.Tie as tie
@@ -43,19 +41,18 @@ debt-near s h =
     (due-near s.debt.sleeps s.debt.due s.edge h.debt.0 e, due-near s.debt.sleeps s.debt.gap s.edge h.debt.1 e)
 
 moved-is :
-    (C : Chip) (s : Rank) (r : Record) {T : Chip} {c : Command} {g : Regs} {start four : ℕ} {slow : Bool} {D : Debt} {B : Banks} {W : Waits} {A : Acts} {Y : Device} {m : ℕ}
-    → T ≡ tuned_by C s.place → c ≡ command_in s r → g ≡ regs_in s → start ≡ start_of C c r (s.edge + r.step) g s.banks → four ≡ four_back C s.acts
+    (C : Chip) (s : Rank) (r : Record) {c : Command} {g : Regs} {start four : ℕ} {slow : Bool} {D : Debt} {B : Banks} {W : Waits} {A : Acts} {Y : Device}
+    → c ≡ command_in s r → g ≡ regs_in s → start ≡ start_of C c r (s.edge + r.step) g s.banks → four ≡ four_back C s.acts
     → slow ≡ get_or s.device.written 0 false && (not (set (get_or s.device.codes 0 0) 12) && not (any_of (λ b. ltb (get_or s.banks.shutno b 0) (get_or s.banks.actno b 0)) 8))
     → D ≡ debt_next C c (s.edge + r.step) s.debt
     → B ≡ banks_next C c r (s.edge + r.step) (s.count + 1) g s.banks
-    → W ≡ waits_next T c r (s.edge + r.step) g start four slow s.waits
+    → W ≡ waits_next C c r (s.edge + r.step) g start four slow s.waits
     → A ≡ acts_next c (s.edge + r.step) (s.count + 1) s.acts
-    → Y ≡ device_next T c r (s.edge + r.step) (s.count + 1) slow s.device
-    → m ≡ place_next c s.place
-    → record { edge = s.edge + r.step; count = s.count + 1; first = s.first; level = r.cke; debt = D; banks = B; waits = W; acts = A; device = Y; place = m }
+    → Y ≡ device_next C c r (s.edge + r.step) (s.count + 1) slow s.device
+    → record { edge = s.edge + r.step; count = s.count + 1; first = s.first; level = r.cke; debt = D; banks = B; waits = W; acts = A; device = Y }
     ≡ moved_of C s r
 unfolding moved_of slow_now none_open
-moved-is C s r ts cs gs st fs ls ds bs ws rs vs ms =
+moved-is C s r cs gs st fs ls ds bs ws rs vs =
     let sts = st ∙ (λ j. start_of C (cs j) r (s.edge + r.step) (gs j) s.banks) in
     λ x. record {
       edge = s.edge + r.step;
@@ -64,15 +61,10 @@ moved-is C s r ts cs gs st fs ls ds bs ws rs vs ms =
       level = r.cke;
       debt = (ds ∙ (λ j. debt_next C (cs j) (s.edge + r.step) s.debt)) x;
       banks = (bs ∙ (λ j. banks_next C (cs j) r (s.edge + r.step) (s.count + 1) (gs j) s.banks)) x;
-      waits = (ws ∙ (λ j. waits_next (ts j) (cs j) r (s.edge + r.step) (gs j) (sts j) (fs j) (ls j) s.waits)) x;
+      waits = (ws ∙ (λ j. waits_next C (cs j) r (s.edge + r.step) (gs j) (sts j) (fs j) (ls j) s.waits)) x;
       acts = (rs ∙ (λ j. acts_next (cs j) (s.edge + r.step) (s.count + 1) s.acts)) x;
-      device = (vs ∙ (λ j. device_next (ts j) (cs j) r (s.edge + r.step) (s.count + 1) (ls j) s.device)) x;
-      place = (ms ∙ (λ j. place_next (cs j) s.place)) x;
+      device = (vs ∙ (λ j. device_next C (cs j) r (s.edge + r.step) (s.count + 1) (ls j) s.device)) x;
     }
-
--- the chip as the record finds it
-found-small : (C : Chip) (s : Rank) (T : Chip) → T ≡ tuned_by C s.place → Small C → Small T
-found-small C s T h small = subst Small (sym h) (tuned-small C s.place small)
 
 add-e : tie.Need-overflow-add-e
 add-e c = search rules
@@ -101,37 +93,26 @@ debt-next-requires c κs = let d = c.before.before.before.before.before.before.b
 banks-next-requires : tie.Need-banks-next-requires
 banks-next-requires c κs = search rules
 
-chip-for-requires : tie.Need-chip-for-requires
-chip-for-requires c κs = search rules
-
 waits-next-requires : tie.Need-waits-next-requires
-waits-next-requires c κs =
-    let d = c.before.before.before.before.before.before.before.before.before.before.before.before.before.before.before.before.before in
-    let p = d.requires in
-    (found-small d.args.chip d.args.s _ c.chip-for.ensures p.0, (near d.args.s d.args.r p.1.0 p.1.1.0 p.1.1.1, c.before.before.before.before.before.before.before.before.before.start_of_lem.ensures.1))
+waits-next-requires c κs = let d = c.before.before.before.before.before.before.before.before.before.before.before.before.before.before.before in let p = d.requires in let n = near d.args.s d.args.r p.1.0 p.1.1.0 p.1.1.1 in (p.0, (n, c.before.before.before.before.before.before.before.start_of_lem.ensures.1))
 
 acts-next-requires : tie.Need-acts-next-requires
-acts-next-requires c κs = c.before.before.before.before.before.before.before.before.before.before.before.before.before.before.before.before.before.before.requires.1.0.turn
+acts-next-requires c κs = c.before.before.before.before.before.before.before.before.before.before.before.before.before.before.before.before.requires.1.0.turn
 
 device-next-requires : tie.Need-device-next-requires
-device-next-requires c κs =
-    let d = c.before.before.before.before.before.before.before.before.before.before.before.before.before.before.before.before.before.before.before in
-    found-small d.args.chip d.args.s _ c.before.before.chip-for.ensures d.requires.0
-
-place-next-requires : tie.Need-place-next-requires
-place-next-requires c κs = search rules
+device-next-requires c κs = c.before.before.before.before.before.before.before.before.before.before.before.before.before.before.before.before.before.requires.0
 
 returns : tie.Need-returns
 returns c =
-    let p4 = c.before.before.before.before in
-    let p8 = p4.before.before.before.before in
-    let p12 = p8.before.before.before.before in
-    let p17 = p12.before.before.before.before.before in
-    let a = p17.before.before.before.before.args in
+    let p5 = c.before.before.before.before.before in
+    let p9 = p5.before.before.before.before in
+    let p11 = p9.before.before in
+    let p14 = p11.before.before.before in
+    let a = p14.before.before.before.before.args in
     moved-is a.chip a.s a.r
-    p4.chip-for.ensures p17.command-of.ensures p12.before.before.regs_of_lem.ensures p12.before.start_of_lem.ensures.0 p12.four-back.ensures p8.slow-now.ensures
-    p4.before.before.before.debt-next.ensures p4.before.before.banks-next.ensures
-    c.before.before.before.waits-next.ensures c.before.before.acts-next.ensures c.before.device-next.ensures c.place-next.ensures
+    p14.command-of.ensures p11.regs_of_lem.ensures p9.before.start_of_lem.ensures.0 p9.four-back.ensures p5.slow-now.ensures
+    c.before.before.before.before.debt-next.ensures c.before.before.before.banks-next.ensures
+    c.before.before.waits-next.ensures c.before.acts-next.ensures c.device-next.ensures
 
 pub moved-spec : {M : Type 1} → statement M
 moved-spec =
@@ -146,9 +127,7 @@ moved-spec =
     slow-now-requires
     debt-next-requires
     banks-next-requires
-    chip-for-requires
     waits-next-requires
     acts-next-requires
     device-next-requires
-    place-next-requires
     returns)

@@ -60,11 +60,8 @@ changed-in-requires c κs = (c.before.before.before.before.before.before.before.
 left-in-requires : tie.Need-left-in-requires
 left-in-requires c κs = (c.before.before.before.before.before.before.before.before.before.before.before.before.requires.1.0.turn, c.before.before.before.before.before.before.before.command-of.ensures)
 
-rule32-requires : tie.Need-rule32-requires
-rule32-requires c κs = search rules
-
 add-says-by : tie.Need-overflow-add-says-by
-add-says-by c = omega (arith, c.before.before.before.before.before.before.before.before.before.before.before.before.before.before.before.requires.1.1.1)
+add-says-by c = omega (arith, c.before.before.before.before.before.before.before.before.before.before.before.before.before.before.requires.1.1.1)
 
 says-by-requires : tie.Need-says-by-requires
 says-by-requires c κs = search rules
@@ -72,14 +69,13 @@ says-by-requires c κs = search rules
 returns : tie.Need-returns
 unfolding says_of
 returns c =
-    let d = c.before.before.before.before.before.before.before in
+    let d = c.before.before.before.before.before.before in
     simp (
       c.says-by.ensures,
-      c.before.before.rule32.ensures,
-      c.before.before.before.left_in.ensures,
-      c.before.before.before.before.changed-in.ensures,
-      c.before.before.before.before.before.owing.ensures,
-      c.before.before.before.before.before.before.broken-in.ensures,
+      c.before.before.left_in.ensures,
+      c.before.before.before.changed-in.ensures,
+      c.before.before.before.before.owing.ensures,
+      c.before.before.before.before.before.broken-in.ensures,
       d.next31.ensures,
       d.before.next28.ensures,
       d.before.before.next25.ensures,
@@ -109,7 +105,6 @@ said-spec =
     owing-requires
     changed-in-requires
     left-in-requires
-    rule32-requires
     add-says-by
     says-by-requires
     returns)

@@ -23,9 +23,6 @@ reset-of-requires c κs = search rules
 device-mark-requires-5 : tie.Need-device-mark-requires-5
 device-mark-requires-5 c κs = search rules
 
-rise-mark-requires : tie.Need-rise-mark-requires
-rise-mark-requires c κs = search rules
-
 device-mark-requires-6 : tie.Need-device-mark-requires-6
 device-mark-requires-6 c κs = search rules
 
@@ -40,7 +37,7 @@ device-mark-requires-9 c κs = search rules
 
 returns : tie.Need-returns
 unfolding rests_of
-returns c = simp (c.device-mark9.ensures, c.before.device-mark8.ensures, c.before.before.device-mark7.ensures, c.before.before.before.device-mark6.ensures, c.before.before.before.before.rise-mark.ensures, c.before.before.before.before.before.device-mark5.ensures, c.before.before.before.before.before.before.reset-of.ensures, c.before.before.before.before.before.before.before.device-mark4.ensures, c.before.before.before.before.before.before.before.before.device-mark3.ensures, c.before.before.before.before.before.before.before.before.before.device-mark2.ensures, c.before.before.before.before.before.before.before.before.before.before.device-mark.ensures)
+returns c = simp (c.device-mark9.ensures, c.before.device-mark8.ensures, c.before.before.device-mark7.ensures, c.before.before.before.device-mark6.ensures, c.before.before.before.before.device-mark5.ensures, c.before.before.before.before.before.reset-of.ensures, c.before.before.before.before.before.before.device-mark4.ensures, c.before.before.before.before.before.before.before.device-mark3.ensures, c.before.before.before.before.before.before.before.before.device-mark2.ensures, c.before.before.before.before.before.before.before.before.before.device-mark.ensures)
 
 pub rests-of-spec : {M : Type 1} → statement M
 rests-of-spec =
@@ -52,7 +49,6 @@ rests-of-spec =
     device-mark-requires-4
     reset-of-requires
     device-mark-requires-5
-    rise-mark-requires
     device-mark-requires-6
     device-mark-requires-7
     device-mark-requires-8

@@ -1,14 +1,16 @@
 -- `sections_run::show::numbers` is safe and ends: a turn for each number.
 -- Assumes nothing.
-use Rattle.std.proofs.Common.{◌-◌, length, rules}
+use Prim.Native.Nat.{◌-◌}
+use lib.ListN.{length}
+use borrow.Author.Rules.{rules}
 use Rattle.sections_run.proofs.show.numbers.Statement.{statement}
 use Rattle.sections_run.proofs.show.numbers.Tie as tie
 
 abbrev invariant-loop : tie.invariant-loop
-invariant-loop base all from i₀ t3 i = Unit
+invariant-loop all from i₀ t3 i = Unit
 
 abbrev decreases-loop : tie.decreases-loop
-decreases-loop base all from i₀ t3 i = length all - i
+decreases-loop all from i₀ t3 i = length all - i
 
 loop-holds : tie.Need-loop-init invariant-loop decreases-loop
 loop-holds c = search rules
@@ -19,14 +21,14 @@ slice-aggregate-put c = search rules
 put-requires : tie.Need-put-requires invariant-loop decreases-loop
 put-requires c κs = search rules
 
-mul-edge : tie.Need-overflow-mul-edge invariant-loop decreases-loop
-mul-edge c = search rules
+mul-print-decimal : tie.Need-overflow-mul-print-decimal invariant-loop decreases-loop
+mul-print-decimal c = search rules
 
-shared-slice-read-edge : tie.Need-shared-slice-read-edge invariant-loop decreases-loop
-shared-slice-read-edge c = search rules
+shared-slice-read-print-decimal : tie.Need-shared-slice-read-print-decimal invariant-loop decreases-loop
+shared-slice-read-print-decimal c = search rules
 
-edge-requires : tie.Need-edge-requires invariant-loop decreases-loop
-edge-requires c κs = search rules
+print-decimal-requires : tie.Need-print-decimal-requires invariant-loop decreases-loop
+print-decimal-requires c κs = search rules
 
 add-i : tie.Need-overflow-add-i invariant-loop decreases-loop
 add-i c = search rules
@@ -49,9 +51,9 @@ numbers-spec =
     loop-holds
     slice-aggregate-put
     put-requires
-    mul-edge
-    shared-slice-read-edge
-    edge-requires
+    mul-print-decimal
+    shared-slice-read-print-decimal
+    print-decimal-requires
     add-i
     loop-less
     loop-again

@@ -34,7 +34,6 @@ returns c =
       waits = c.before.before.fresh-waits.ensures i;
       acts = c.before.fresh-acts.ensures i;
       device = c.fresh-device.ensures i;
-      place = 0;
     }
 
 pub fresh-spec : {M : Type 1} → statement M
