@@ -5,7 +5,7 @@ pub use report::{put_verdict, put_verdicts, verdict_bytes};
 
 // What a record or an edge breaks: the rule, the number of the earlier record (0: none), the clocks needed and found; found is the refused bit
 // where an MRS breaks rule 3.
-#[derive(Drop)]
+#[derive(Clone, Copy)]
 pub enum Break {
     Fine,
     Broken {
@@ -17,7 +17,7 @@ pub enum Break {
 }
 
 // A bank at an edge. Unless it is idle: the edge, the number and the row of its ACT.
-#[derive(Drop)]
+#[derive(Clone, Copy)]
 pub enum Bank {
     Idle,
     Open { at: u64, num: u64, row: u64 },
@@ -25,7 +25,7 @@ pub enum Bank {
 }
 
 // A bank as it is answered: status 0 idle, 1 open, 2 closing; row and ACT edge are 0 where it is idle.
-#[derive(Drop)]
+#[derive(Clone, Copy)]
 pub struct Shown {
     pub status: u64,
     pub row: u64,
@@ -33,7 +33,7 @@ pub struct Shown {
 }
 
 // 01's verdict. Clean: outcome, rule, partner, needed and found are 0, number is the number of records, edge the end edge.
-#[derive(Drop)]
+#[derive(Clone, Copy)]
 pub struct Verdict {
     pub outcome: u64,
     pub rule: u64,
@@ -45,14 +45,14 @@ pub struct Verdict {
 }
 
 // A mode register: unwritten, or its last code.
-#[derive(Drop)]
+#[derive(Clone, Copy)]
 pub struct Register {
     pub written: bool,
     pub code: u16,
 }
 
 // What stands at the end edge. owed is the refresh debt + 8.
-#[derive(Drop)]
+#[derive(Clone, Copy)]
 pub struct End {
     pub verdict: Verdict,
     pub banks: [Shown; 8],

@@ -1,4 +1,5 @@
 // The 20 bytes of a verdict, and the 40 of two.
+ghost use Rattle.std.specs.Prelude.{◌≡◌, ◌≤◌, ◌++◌, length, take, drop};
 ghost use Rattle.answers.specs.Answer.{Reported, ReportedBoth};
 ghost use Rattle.answers.specs.Promises.{VerdictBytes};
 
@@ -12,7 +13,7 @@ pub fn put_verdict(v: Verdict, out: &mut [u8]) -> u32
         return 9;
     }
     let twenty = verdict_bytes(v);
-    bytes::copy(&twenty, out);
+    copy(&twenty, out);
     0
 }
 
@@ -25,9 +26,17 @@ pub fn put_verdicts(first: Verdict, second: Verdict, out: &mut [u8]) -> u32
     }
     let one = verdict_bytes(first);
     let two = verdict_bytes(second);
-    bytes::copy(&one, out);
-    bytes::copy(&two, &mut out[20..]);
+    copy(&one, out);
+    copy(&two, &mut out[20..]);
     0
+}
+
+// A text at the start of the lent bytes.
+fn copy(text: &[u8], out: &mut [u8])
+    requires { length text.now ≤ length out.old }
+    ensures { out.new ≡ take (length text.now) text.now ++ drop (length text.now) out.old }
+{
+    out[..text.len()].copy_from_slice(text);
 }
 
 pub fn verdict_bytes(v: Verdict) -> [u8; 20]

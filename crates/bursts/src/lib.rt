@@ -28,7 +28,7 @@ fn put(words: &[u8], out: &mut [u8]) -> u32
     if out.len() < words.len() {
         return 9;
     }
-    bytes::copy(words, out);
+    out[..words.len()].copy_from_slice(words);
     0
 }
 

@@ -7,7 +7,7 @@ pub use latencies::{al_of, b_of, cl_of, cwl_of, h_of, wr_of};
 pub use part::chip_of;
 
 // most: greatest t_ras. nine: nine times t_refi, which rules 28 and 31 ask for.
-#[derive(Drop)]
+#[derive(Clone, Copy)]
 pub struct Chip {
     pub header: Header,
     pub trcd: u32,
@@ -33,7 +33,7 @@ pub struct Chip {
 }
 
 // The codes last written to the mode registers; 0 where there is none.
-#[derive(Drop)]
+#[derive(Clone, Copy)]
 pub struct Regs {
     pub mr0: u16,
     pub mr1: u16,

@@ -6,7 +6,7 @@ use answers::Verdict;
 use judge::State;
 
 // The number of the first check that fails, or 0 and the verdicts of the first and the second rank; in edition 1 the second is zero.
-#[derive(Drop)]
+#[derive(Clone, Copy)]
 pub struct Whole {
     pub refused: u32,
     pub verdict: Verdict,

@@ -9,7 +9,7 @@ ghost use Rattle.glossary.specs.Promises.{RowAt, RowOf, LineAt};
 use table::ROWS;
 
 // A kind of the tally and its name; the levels of CKE before and now, of being asleep before, of CS, RAS, CAS, WE and A10: 0 low, 1 high, 2 any; what it means.
-#[derive(Drop)]
+#[derive(Clone, Copy)]
 pub struct Row {
     pub kind: u64,
     pub name: [u8; 9],
@@ -18,7 +18,7 @@ pub struct Row {
 }
 
 // A row as a report prints it: whether it is the first of its kind, and how many records of its kind a tally has.
-#[derive(Drop)]
+#[derive(Clone, Copy)]
 pub struct Line {
     pub row: Row,
     pub first: bool,

@@ -6,7 +6,7 @@ mod opening;
 pub use opening::{edition_for, parse};
 use units::Ps;
 
-#[derive(Drop)]
+#[derive(Clone, Copy)]
 pub struct Header {
     // 0 to 3: 1066, 1333, 1600, 1866
     pub bin: u8,
@@ -19,7 +19,7 @@ pub struct Header {
 }
 
 // A header, or the number of the first check that fails.
-#[derive(Drop)]
+#[derive(Clone, Copy)]
 pub enum Parsed {
     Taken(Header),
     Refused(u8),

@@ -7,7 +7,7 @@ use edges::Rank;
 use header::Header;
 
 // edition: 1 or 2. two: the second rank; in edition 1 there is none, and it is as it was opened.
-#[derive(Drop)]
+#[derive(Clone, Copy)]
 pub struct State {
     pub header: Header,
     pub edition: u64,
@@ -16,14 +16,14 @@ pub struct State {
 }
 
 // refused is 0 or the number of the check that failed; then every other field is zero, or the state handed in.
-#[derive(Drop)]
+#[derive(Clone, Copy)]
 pub struct Opened {
     pub refused: u64,
     pub state: State,
 }
 
 // verdict, second: the verdicts so far of the first and of the second rank; in edition 1 the second is zero.
-#[derive(Drop)]
+#[derive(Clone, Copy)]
 pub struct Taken {
     pub refused: u64,
     pub state: State,
@@ -32,7 +32,7 @@ pub struct Taken {
 }
 
 // end, second: of the first and of the second rank; in edition 1 the second is zero.
-#[derive(Drop)]
+#[derive(Clone, Copy)]
 pub struct Closed {
     pub refused: u64,
     pub end: End,
@@ -40,7 +40,7 @@ pub struct Closed {
 }
 
 // Both ranks in a section of edition 2, whether a step in it was 0, and whether zero bits were set.
-#[derive(Drop)]
+#[derive(Clone, Copy)]
 struct Pair {
     zero: bool,
     spare: bool,
@@ -49,7 +49,7 @@ struct Pair {
 }
 
 // One rank in a section of edition 2, and the same.
-#[derive(Drop)]
+#[derive(Clone, Copy)]
 struct Single {
     zero: bool,
     spare: bool,

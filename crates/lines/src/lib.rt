@@ -76,5 +76,6 @@ fn put(out: &mut [u8], at: usize, text: &[u8]) -> usize
     requires { at + length text.now ≤ length out.old }
     ensures { Put text.now at out.old result out.new }
 {
-    at + bytes::copy(text, &mut out[at..])
+    out[at..at + text.len()].copy_from_slice(text);
+    at + text.len()
 }

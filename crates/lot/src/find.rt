@@ -8,7 +8,7 @@ use tally::{Placed, Sought, Spot};
 const FIRST: usize = 5;
 
 // The number that was listed last, the list's last, where the walk over the files stands, the lot's edition, and which rank sees the records.
-#[derive(Drop)]
+#[derive(Clone, Copy)]
 struct Search {
     last: u64,
     to: u64,

@@ -14,7 +14,7 @@ use tally::Tally;
 
 // Where the reading stands: the file's number, the byte of it that comes next, the count and the edge at its start, and whether it begins with
 // a header of its own. more: there may be more of the file. stopped: a file could not be judged, and there is no verdict.
-#[derive(Drop)]
+#[derive(Clone, Copy)]
 struct Place {
     file: usize,
     at: u64,
@@ -26,7 +26,7 @@ struct Place {
 }
 
 // What the files so far have led to. header: the six bytes of the lot's header. two: of the second rank; in edition 1 nothing is counted there.
-#[derive(Drop)]
+#[derive(Clone, Copy)]
 struct Lot {
     place: Place,
     header: [u8; 6],

@@ -5,7 +5,7 @@ use crate::file::SECTION;
 use moves::Check;
 
 // What the reading came to so far. unread: the file could not be read, which was told.
-#[derive(Drop)]
+#[derive(Clone, Copy)]
 pub(crate) struct Found {
     pub(crate) unread: bool,
     pub(crate) more: bool,

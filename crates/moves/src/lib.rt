@@ -11,7 +11,7 @@ use wide::Seen;
 
 // How far the checks have come: the edition that the move starts from, the header's refusal or 0, the bytes behind it, and what was seen in the
 // records.
-#[derive(Drop)]
+#[derive(Clone, Copy)]
 pub struct Check {
     pub edition: u64,
     pub refused: u32,

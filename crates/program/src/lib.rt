@@ -13,7 +13,7 @@ pub const SECTION: usize = 6000;
 pub const BLOCK: usize = 60000;
 
 // What was refused (0: nothing), the state, and whether there may be more to read.
-#[derive(Drop)]
+#[derive(Clone, Copy)]
 pub struct Run {
     pub refused: u64,
     pub state: State,

@@ -14,7 +14,7 @@ use edges::{Debt, Floor};
 use records::{Command, Record, rank_of};
 
 // turned: the latest change of CKE.
-#[derive(Drop)]
+#[derive(Clone, Copy)]
 pub(crate) struct Left {
     pub debt: Debt,
     pub floor: Floor,

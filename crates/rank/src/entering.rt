@@ -49,7 +49,7 @@ fn columns_over(
 }
 
 // The clocks that an MRS, a RD and a WR with auto precharge ask for, by the registers in force.
-#[derive(Drop)]
+#[derive(Clone, Copy)]
 struct Entry {
     set: u32,
     read: u32,

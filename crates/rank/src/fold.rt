@@ -11,7 +11,7 @@ use crate::smooth::smoothly;
 use chip::Chip;
 use edges::{Acts, Banks, Device, Folded, Rank, Waits};
 
-#[derive(Drop)]
+#[derive(Clone, Copy)]
 struct Laned {
     at: usize,
     rank: Rank,

@@ -12,7 +12,7 @@ use chip::Chip;
 use edges::{Debt, Floor};
 use records::{Command, Record, command_of, rank_of};
 
-#[derive(Drop)]
+#[derive(Clone, Copy)]
 struct Passed {
     debt: Debt,
     floor: Floor,
@@ -59,7 +59,7 @@ fn pass(
 }
 
 // Whether it comes; sets: it is an MRS; level: that of CKE after it.
-#[derive(Drop)]
+#[derive(Clone, Copy)]
 pub(crate) struct Next {
     pub comes: bool,
     pub sets: bool,

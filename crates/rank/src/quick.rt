@@ -14,7 +14,7 @@ use records::Record;
 use running::Asks;
 
 // How far it came, and the floor.
-#[derive(Drop)]
+#[derive(Clone, Copy)]
 pub(crate) struct Ran {
     pub edge: u64,
     pub count: u32,

@@ -41,7 +41,7 @@ fn none() -> Floor
 }
 
 // Where it ended: at the end of the bytes, or before a record that goes by the marks.
-#[derive(Drop)]
+#[derive(Clone, Copy)]
 pub(crate) struct Lane {
     pub edge: u64,
     pub count: u32,

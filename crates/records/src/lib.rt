@@ -5,7 +5,7 @@ ghost use Rattle.records.specs.Command.{by_pins, falling, rising};
 ghost use Rattle.records.specs.Promises.{Decode, CommandOf, RankOf};
 
 // Edges since the record before, the pin levels of CKE and of CS, RAS, CAS, WE as one number, BA, and A15..A0.
-#[derive(Drop)]
+#[derive(Clone, Copy)]
 pub struct Record {
     pub step: u64,
     pub cke: bool,
@@ -15,7 +15,7 @@ pub struct Record {
 }
 
 // Low: CKE stays low and the pins are ignored. Bad: a CKE change that is none of the others. Pde, Pdx: entry and exit of power-down.
-#[derive(Drop)]
+#[derive(Clone, Copy)]
 pub enum Command {
     Mrs,
     Ref,

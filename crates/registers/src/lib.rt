@@ -8,7 +8,7 @@ pub use decoding::decode;
 pub use reading::read;
 
 // What register reading writes of a code, in its order.
-#[derive(Drop)]
+#[derive(Clone, Copy)]
 pub struct Values {
     pub first: u8,
     pub second: u8,
@@ -19,7 +19,7 @@ pub struct Values {
 }
 
 // A code that is allowed, taken apart; or the lowest address bit of a field that is not allowed, 16 above register 3.
-#[derive(Drop)]
+#[derive(Clone, Copy)]
 pub enum Decoded {
     Register(Values),
     Bit(u8),

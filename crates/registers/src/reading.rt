@@ -28,7 +28,7 @@ fn put(decoded: Decoded, out: &mut [u8]) -> u32
     match decoded {
         Decoded::Register(v) => {
             let six = [v.first, v.second, v.third, v.fourth, v.fifth, v.sixth];
-            bytes::copy(&six, out);
+            out[..6].copy_from_slice(&six);
             0
         }
         Decoded::Bit(b) => 11 + 256 * (b as u32),

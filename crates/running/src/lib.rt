@@ -4,7 +4,7 @@ use answers::Verdict;
 use chip::Regs;
 
 // A record that a rule counts from: its edge (or the start of its precharge), its number, the clocks needed. All 0: none.
-#[derive(Drop)]
+#[derive(Clone, Copy)]
 pub struct Mark {
     pub at: u64,
     pub num: u32,
@@ -12,7 +12,7 @@ pub struct Mark {
 }
 
 // A bank: its latest ACT (with rule 4's need) and row, RD (10), WR (11), and the start of its latest precharge (5).
-#[derive(Drop)]
+#[derive(Clone, Copy)]
 pub struct Kept {
     pub acted: Mark,
     pub row: u16,
@@ -22,7 +22,7 @@ pub struct Kept {
 }
 
 // The latest RD of all banks, with what rules 10, 13 and 19 need.
-#[derive(Drop)]
+#[derive(Clone, Copy)]
 pub struct Read {
     pub at: u64,
     pub num: u32,
@@ -32,7 +32,7 @@ pub struct Read {
 }
 
 // The latest WR of all banks, with what rules 11 and 14 need.
-#[derive(Drop)]
+#[derive(Clone, Copy)]
 pub struct Wrote {
     pub at: u64,
     pub num: u32,
@@ -41,7 +41,7 @@ pub struct Wrote {
 }
 
 // Which registers were written, and whether a DLL reset was.
-#[derive(Drop)]
+#[derive(Clone, Copy)]
 pub struct Written {
     pub w0: bool,
     pub w1: bool,
@@ -52,7 +52,7 @@ pub struct Written {
 
 // The latest REF (15), ZQ (18), DLL reset or SRX (20), SRX (21), SRE (22), change of CKE (27), power-down exit (29), and one of precharge
 // power-down with MR0 A12 = 0 (30).
-#[derive(Drop)]
+#[derive(Clone, Copy)]
 pub struct Rests {
     pub refreshed: Mark,
     pub tuned: Mark,
@@ -65,7 +65,7 @@ pub struct Rests {
 }
 
 // Refresh debt: asleep or not, the awake clock's place within an interval, debt + 8, the awake clocks since the last REF or edge 0.
-#[derive(Drop)]
+#[derive(Clone, Copy)]
 pub struct Debt {
     pub sleeps: bool,
     pub phase: u64,
@@ -74,7 +74,7 @@ pub struct Debt {
 }
 
 // What all banks share. now: the edge of the latest record that the state speaks of.
-#[derive(Drop)]
+#[derive(Clone, Copy)]
 pub struct Shared {
     pub now: u64,
     pub level: bool,
@@ -90,14 +90,14 @@ pub struct Shared {
 }
 
 // The soonest due edge found so far, and its bank.
-#[derive(Drop)]
+#[derive(Clone, Copy)]
 pub struct Pick {
     pub at: u64,
     pub bank: u64,
 }
 
 // A deadline: the edge at which it passes, and what is then reported.
-#[derive(Drop)]
+#[derive(Clone, Copy)]
 pub struct Late {
     pub at: u64,
     pub rule: u64,
@@ -108,7 +108,7 @@ pub struct Late {
 
 // One rank: edge and count go on after a break; the rest stays as it was just before the broken edge. first: the break, or all 0.
 // dues: for each bank the edge at which rule 24 breaks, or 0.
-#[derive(Drop)]
+#[derive(Clone, Copy)]
 pub struct Rank {
     pub edge: u64,
     pub count: u32,
@@ -120,7 +120,7 @@ pub struct Rank {
 
 // The clocks that ACT, RD and WR leave behind under the registers in force: what rules 4, 10, 11, 14, 13 and 19 need, and from a WR to
 // the start of its auto precharge. long and short: of a read with A12 and without.
-#[derive(Drop)]
+#[derive(Clone, Copy)]
 pub struct Asks {
     pub n4: u32,
     pub n10: u32,

@@ -18,7 +18,7 @@ use judge::State;
 use libc::STDIN_FILENO;
 
 // The refusal that ended the case (0: none), and the state.
-#[derive(Drop)]
+#[derive(Clone, Copy)]
 struct Run {
     refused: u64,
     state: State,

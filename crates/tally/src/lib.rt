@@ -18,7 +18,7 @@ pub use refused::refused_at;
 const LARGEST: u64 = 1152921504606846976;
 
 // The CKE level after the records so far, whether the part sleeps, and the number of records of each kind.
-#[derive(Drop)]
+#[derive(Clone, Copy)]
 pub struct Tally {
     pub level: bool,
     pub sleeps: bool,
@@ -26,7 +26,7 @@ pub struct Tally {
 }
 
 // refused is 0 or the number of the check that failed; then the tally is the one handed in.
-#[derive(Drop)]
+#[derive(Clone, Copy)]
 pub struct Tallied {
     pub refused: u64,
     pub tally: Tally,
@@ -34,7 +34,7 @@ pub struct Tallied {
 
 // How far a walk over the records has come: the number and the edge of the last, the CKE level after it, whether the part sleeps, and how many
 // stand before the edge `limit`.
-#[derive(Drop)]
+#[derive(Clone, Copy)]
 pub struct Reached {
     pub number: u64,
     pub edge: u64,
@@ -45,7 +45,7 @@ pub struct Reached {
 }
 
 // A record: the walk up to it, the CKE level before it, its kind, and its fields.
-#[derive(Drop)]
+#[derive(Clone, Copy)]
 pub struct Found {
     pub reached: Reached,
     pub level: bool,
@@ -54,7 +54,7 @@ pub struct Found {
 }
 
 // A walk over a lot's files: how far it has come, the number of the file, and the byte of it that comes next.
-#[derive(Drop)]
+#[derive(Clone, Copy)]
 pub struct Spot {
     pub reached: Reached,
     pub file: u64,
@@ -62,7 +62,7 @@ pub struct Spot {
 }
 
 // A record, the number of its file, its first byte there, and its six bytes as one number.
-#[derive(Drop)]
+#[derive(Clone, Copy)]
 pub struct Placed {
     pub found: Found,
     pub file: u64,
@@ -71,7 +71,7 @@ pub struct Placed {
 }
 
 // What a search for a record comes to, in one section.
-#[derive(Drop)]
+#[derive(Clone, Copy)]
 pub enum Sought {
     Here(Placed),
     Elsewhere,

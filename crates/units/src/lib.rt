@@ -2,12 +2,12 @@
 // Only the two roundings here turn the one into the other. A period of 0 gives 0 clocks.
 ghost use Rattle.units.specs.Promises.{Up, Down};
 
-#[derive(Drop)]
+#[derive(Clone, Copy)]
 pub struct Ps {
     pub ps: u64,
 }
 
-#[derive(Drop)]
+#[derive(Clone, Copy)]
 pub struct Clocks {
     pub clocks: u64,
 }

@@ -15,7 +15,7 @@ pub use sums::steps_in;
 
 // Edges since the record before; the levels of RESET, CKE, both CS, ODT, and of RAS, CAS, WE as one number; BA, A15..A0, and 13 bits that
 // are to be zero.
-#[derive(Drop)]
+#[derive(Clone, Copy)]
 pub struct Wide {
     pub step: u64,
     pub reset: bool,
@@ -30,14 +30,14 @@ pub struct Wide {
 }
 
 // Records that were narrowed: how many bytes they take, and whether some had zero bits set.
-#[derive(Drop)]
+#[derive(Clone, Copy)]
 pub struct Part {
     pub len: usize,
     pub spare: bool,
 }
 
 // Whether some record had a step of 0, had zero bits set, cannot go back to edition 1.
-#[derive(Drop)]
+#[derive(Clone, Copy)]
 pub struct Seen {
     pub zero: bool,
     pub spare: bool,
@@ -45,7 +45,7 @@ pub struct Seen {
 }
 
 // The sum of the records' steps, whether one was 0, and whether some record had zero bits set.
-#[derive(Drop)]
+#[derive(Clone, Copy)]
 pub struct Steps {
     pub sum: u64,
     pub zero: bool,

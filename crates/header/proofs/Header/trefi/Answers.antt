@@ -1,0 +1,6 @@
+-- `trefi`: its time, rounded.
+-- Assumes nothing.
+use Rattle.header.proofs.Header.trefi.Goals as goal
+
+pub returns : goal.returns
+returns c = simp (c.greatest.ensures, c.choice-time.ensures)
