@@ -38,6 +38,7 @@ parts k f fs h =
 
 -- a field of a table that ascends has no lower bit than the table begins with, and one that is a bit
 above : (k : ℕ) (fs : List Field) → ascends k fs ≡ true → {f : Field} → Among f fs → (k ≤ f.low) × (f.low < no_bit)
+above k [] h x = elim x [ ]
 above k (f ∷ fs) h first = ((parts k f fs h).0, (parts k f fs h).1)
 above k (g ∷ fs) h (next i) =
     let rest = above (suc g.low) fs (parts k g fs h).2 i in
@@ -46,6 +47,7 @@ above k (g ∷ fs) h (next i) =
 -- no field that is not allowed has a lower bit than the one that is named
 pub lowest-named : (k : ℕ) (fs : List Field) → ascends k fs ≡ true → {f : Field} → Among f fs → f.ok ≡ false → first_bad fs ≤ f.low
 unfolding first_bad
+lowest-named k [] h x bad = elim x [ ]
 lowest-named k (f ∷ fs) h first bad = rw bad (omega arith)
 lowest-named k (g ∷ fs) h {f} (next i) bad =
     let rest = (parts k g fs h).2 in
