@@ -1,0 +1,6 @@
+-- With what it asks of an entry.
+-- Assumes nothing.
+use Rattle.kept.proofs.down.entry_read.Goals as goal
+
+pub returns : goal.returns
+returns c = simp c.read_need.ensures
