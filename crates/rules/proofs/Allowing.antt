@@ -210,8 +210,8 @@ module _ (C : Chip) (S : Sound C) (r : Record) (p : Past) where
   any-bank : (k : Past → Bool) (u : Past → ℕ) → ((n : ℕ) → n < 8 → furthest (record { who = λ s. k s && on n s; until = u }) p ≤ e)
       ↔ (furthest (record { who = λ s. k s && true; until = u }) p ≤ e)
   any-bank k u = (
-    λ h. met-furthest _ e p (λ s i y. met _ e p (h (bank_of s) (bank-small s)) s i (and-true (both (k s) _ y).0 (eq-eqb (bank_of s) (bank_of s) refl))),
-    λ h n l. met-furthest _ e p (λ s i y. met _ e p h s i (and-true (both (k s) _ y).0 refl)),
+    λ h. met-furthest (record { who = λ x. k x && true; until = u }) e p (λ s i y. met (record { who = λ x. k x && on (bank_of s) x; until = u }) e p (h (bank_of s) (bank-small s)) s i (and-true (both (k s) true y).0 (eq-eqb (bank_of s) (bank_of s) refl))),
+    λ h n l. met-furthest (record { who = λ x. k x && on n x; until = u }) e p (λ s i y. met (record { who = λ x. k x && true; until = u }) e p h s i (and-true (both (k s) (on n s) y).0 refl)),
   )
 
   -- three rows that look at the banks covered, and what is asked of any bank

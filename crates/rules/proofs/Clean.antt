@@ -77,6 +77,7 @@ module _ (C : Chip) where
 
   -- a rule of clocks is kept
   pub clean-spaced : (R : Spacing) → Among (row R) (checks C) → (p : Past) → Clean C p → Spaced R.to R.from R.need p
+  clean-spaced R a p h [] t i j y z = elim j [ ]
   clean-spaced R a p h (r ∷ q) t i j y z =
       let k = fine-kept edge R.name (asking (R.from (r ∷ q)) R.need) (edge (r ∷ q)) q (rw y at (among-fine r q a (clean-now r q (clean-in i h)))) t j in
       let n : R.need t ≤ edge (r ∷ q) - edge t = rw z at k in

@@ -58,6 +58,7 @@ module _ (p : Past) (kind set : Past → Bool) (g : ℕ) (most need : Past → �
     (below : (s : Past) → s ∈ p → kind s ≡ true → need s ≤ most s)
     (steady : (s t : Past) → s ∈ p → t ∈ p → kind s ≡ true → kind t ≡ true → latest set s ≡ latest set t → need t ≤ need s + g) where
   pub dominated : Dominated edge kind need p
+  dominated [] t i j y z = elim j [ ]
   dominated (r ∷ q) t i j y z = ⊎_elim
       (λ (e : latest set q ≡ latest set t).
       let n : set (r ∷ q) ≡ false = other (r ∷ q) y in
@@ -135,6 +136,7 @@ module _ (C : Chip) (S : Sound C) where
   -- at an edge at which its bank is idle a write has its clocks
   write_done : (q t : Past) → Clean C q → Settled q → t ∈ q → is Wr t ≡ true → (e : ℕ) → is_idle (status C (bank_of t) q e) ≡ true
       → edge t + need11 C t ≤ e
+  write_done [] t hyp f x5 y e d = elim x5 [ ]
   write_done (r ∷ q) t hyp f here y e d = ⊎_elim
       (λ (z : touches (bank_of (r ∷ q)) (r ∷ q) ≡ true).
       let w = idle-closed C (bank_of (r ∷ q)) r q e (rw z at d) in
@@ -154,6 +156,7 @@ module _ (C : Chip) (S : Sound C) where
 
   -- every write has its clocks before a later MRS
   pub settled : (p : Past) → Clean C p → Spaced (is Mrs) (λ _. is Wr) (need11 C) p
+  settled [] hyp m t x5 j y z = elim x5 [ ]
   settled (r ∷ q) hyp m t here j y z =
       write_done q t (clean-tail C r q hyp) (settled q (clean-tail C r q hyp)) j z (edge (r ∷ q))
       (allowed-as C Mrs r q hyp y (bank_of t) (bank-small t) refl)

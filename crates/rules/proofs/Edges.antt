@@ -4,7 +4,7 @@
 use Prim.Native.Nat.{ℕ, zero, suc, ◌+◌, ◌-◌, ◌≤◌, ◌<◌}
 use native.Mathlib.Omega.{arith}
 use native.Mathlib.Decide.{dec_lt, ℕ_discrete}
-use mathlib.Core.Path.{◌≡◌, refl, sym, ap, ◌∙◌}
+use mathlib.Core.Path.{◌≡◌, refl, sym, ap, ◌∙◌, subst}
 use mathlib.Core.Logic.{⊎_elim}
 use mathlib.Core.Bool.{Bool, true, false, cond}
 use mathlib.Core.List.{[], ◌∷◌}
@@ -242,7 +242,7 @@ module _ (C : Chip) where
               arith,
               since-record r p,
               not-parted p (edge (r ∷ p))
-                  (sym (late31-at C p (r ∷ p) (edge (r ∷ p)) (up-to-before r p (edge (r ∷ p)) (omega arith) (omega arith))) ∙ rw (← q) at w),
+                  (sym (late31-at C p (r ∷ p) (edge (r ∷ p)) (up-to-before r p (edge (r ∷ p)) (omega arith) (omega arith))) ∙ (let P : ℕ → Type 0 = λ x. rule31 C (r ∷ p) x ≡ Fine in subst P (sym q) w)),
             ))
             | no q ↦ not-parted (r ∷ p) u (sym (late31-at C (r ∷ p) (r ∷ p) u (up-to-all (u - 1) (r ∷ p) (omega arith))) ∙ w)
           ]

@@ -28,6 +28,7 @@ module _ (a : Ask) where
   Met e p = (s : Past) → s ∈ p → a.who s ≡ true → a.until s ≤ e
 
   pub met : (e : ℕ) (p : Past) → furthest a p ≤ e → Met e p
+  met e [] h s x3 y = elim x3 [ ]
   met e (r ∷ p) h s here y = let k = rw y at h in omega arith
   met e (r ∷ p) h s (there i) y = met e p (omega arith) s i y
 

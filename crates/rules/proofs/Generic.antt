@@ -56,6 +56,7 @@ short-either k e at num need b c h = ⊎_elim
     (decide (ltb (e - at) need))
 
 pub fine-kept : (from : Past → ℕ) (k : ℕ) (asks : Past → ℕ) (e : ℕ) (p : Past) → look_back from k asks e p ≡ Fine → Kept from asks e p
+fine-kept from k asks e [] h s x'' = elim x'' [ ]
 fine-kept from k asks e (r ∷ p) h s here = (short-fine k e (from (r ∷ p)) (number (r ∷ p)) (asks (r ∷ p)) (look_back from k asks e p) h).0
 fine-kept from k asks e (r ∷ p) h s (there i) =
     fine-kept from k asks e p (short-fine k e (from (r ∷ p)) (number (r ∷ p)) (asks (r ∷ p)) (look_back from k asks e p) h).1 s i
@@ -97,6 +98,7 @@ module _ (from : Past → ℕ) (k e : ℕ) (speaks : Past → Bool) (need : Past
 
 -- a rule whose need is a constant is always dominated
 pub constant-dominated : (speaks : Past → Bool) (n : ℕ) (p : Past) → Dominated edge speaks (λ _. n) p
+constant-dominated speaks n p [] t i j y z = elim j [ ]
 constant-dominated speaks n p (r ∷ s) t i j y z = let o = edge-le j in omega arith
 
 -- a rule whose need is a constant: only the latest event of the kind matters

@@ -103,6 +103,7 @@ module _ (C : Chip) where
 
     -- no ACT or closing event of the bank reaches past the latest
     pub reach-le : {t : Past} (p : Past) → Clean C p → t ∈ p → touches b t ≡ true → reach b t ≤ reach b (latest (touches b) p)
+    reach-le {t = t} [] hyp x3 y = elim x3 [ ]
     reach-le (r ∷ q) hyp here y = rw y (omega arith)
     reach-le {t} (r ∷ q) hyp (there i) y = ⊎_elim
         (λ (z : touches b (r ∷ q) ≡ true). rw z (omega (arith, reach-le q (clean-tail C r q hyp) i y, reach_step r q hyp z, reach-after b (r ∷ q))))
@@ -111,6 +112,7 @@ module _ (C : Chip) where
 
     -- of one bank, starts do not decrease
     pub starts : (p s t : Past) → Clean C p → s ∈ p → t ∈ tail s → closes b s ≡ true → closes b t ≡ true → start C t ≤ start C s
+    starts p [] t hyp i j y z = elim j [ ]
     starts p (r ∷ q) t hyp i j y z =
         let c : Clean C (r ∷ q) = clean-in C i hyp in
         let a : reach b t ≤ reach b (latest (touches b) q) = reach-le q (clean-tail C r q c) j (closes-touches b t z) in

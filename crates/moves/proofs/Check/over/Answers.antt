@@ -5,4 +5,4 @@ use Rattle.moves.proofs.Check.over.Goals as goal
 
 pub returns : goal.returns
 unfolding over_of
-returns c = rw (c.wrapping_add_u64.ensures, c.seen_by-seen.ensures)
+returns c = rw (c.wrapping_add_u64.ensures.value, c.seen_by-seen.ensures)
