@@ -1,0 +1,6 @@
+-- Asleep or not.
+-- Assumes nothing.
+use Rattle.rank.proofs.deadlines.next25.Goals as goal
+
+pub returns : goal.returns
+returns c = simp c.of_two.ensures

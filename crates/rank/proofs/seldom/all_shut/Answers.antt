@@ -1,0 +1,6 @@
+
+use Rattle.rank.proofs.numbers.most_of.Reads as most-of-reads
+use Rattle.rank.proofs.seldom.all_shut.Goals as goal
+
+pub returns : goal.returns
+returns c = simp (c.most_of-2.ensures, c.most_of.ensures)

@@ -1,0 +1,20 @@
+-- The eight banks in turn.
+-- Assumes nothing.
+use Prim.Native.Nat.{◌-◌, max}
+use mathlib.Core.Path.{ap, ◌∙◌}
+use Rattle.edges.specs.Asks.{asks_pre}
+use Rattle.rank.proofs.Filling.{fill_start, fill-turn, fill_end}
+use borrow.Author.Rules.{rules}
+use Rattle.rank.proofs.waiting.pre_waits.Goals as goal
+
+pub loop-i-init : goal.loop-i-init
+loop-i-init c = (search rules, fill_start _ _)
+
+pub loop-i-preserved : goal.loop-i-preserved
+loop-i-preserved c =
+    let l = c.loop-i in
+    let is = c.most_of.ensures ∙ ap (max _) c.asks_pre.ensures in
+    (search rules, fill-turn _ _ l.i (search rules) _ l.invariant.1 _ is)
+
+pub returns : goal.returns
+returns c = let l = c.loop-i in fill_end _ _ l.i l.invariant.0 (search rules) _ l.invariant.1

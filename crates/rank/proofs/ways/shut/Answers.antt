@@ -1,0 +1,7 @@
+
+use mathlib.Core.Path.{refl}
+use Rattle.rank.proofs.numbers.most_of.Reads as most-of-reads
+use Rattle.rank.proofs.ways.shut.Goals as goal
+
+pub returns : goal.returns
+returns c = record { value = simp c.most_of-2.ensures; shutat_after = refl; shutno_after = refl; act_after = simp c.most_of.ensures }
