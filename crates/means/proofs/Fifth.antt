@@ -73,12 +73,13 @@ module _ (C : Chip) (S : Sound C) (p : Past) (hyp : Clean C p) (e : ℕ) where
       (unchanged-or (closes (bank_of g)) w.event)
     where
       later : (m : Past) → m ∈ p → g ∈ tail m → closes (bank_of g) m ≡ true → ⊥
+      later [] i j y = elim j [ ]
       later (r ∷ q) i j y =
           omega (arith, w.last (r ∷ q) i (closes-shuts (bank_of g) (r ∷ q) y) (omega (arith, number-le j)), starts C (bank_of g) (bank-small g) p (r ∷ q) g hyp i j y (shuts-own g w.kind))
 
   -- where the greatest start of any bank has its clocks, the search of every bank is fine
   pub any-fine : since C e (greatest shuts (start C) p) ≡ Fine → (b : ℕ) → searched b ≡ Fine
-  any-fine h b = kept_fine (start C) 5 _ e p (λ s i. ⊎_elim
+  any-fine h b = kept_fine (start C) 5 (asking (closes b) (λ _. C.trp)) e p (λ s i. ⊎_elim
       (λ (y : closes b s ≡ true). rw y (since-kept C shuts e p h s i (closes-shuts b s y)))
       (λ (n : closes b s ≡ false). rw n (omega arith))
       (decide (closes b s)))

@@ -167,6 +167,7 @@ module _ (C : Chip) (q : Past) where
     NoneBelow k cs = (c : Check) (u n j a b d : ℕ) → Among c cs → check_says c q t ≡ stop u n (Broken j a b d) → k ≤ j
 
     above : {k : ℕ} {cs : List Check} → Ordered k cs → NoneBelow k cs
+    above (none {k = k}) c u n j a b d x7 h = elim x7 [ ]
     above (also i l s o) c u n j a b d first h = let w = (s t _ _ _ _ _ _ h).0 in omega (arith, leb-true)
     above (also i l s o) c u n j a b d (next e) h = let w = above o c u n j a b d e h in omega (arith, leb-true)
 

@@ -30,7 +30,9 @@ returns c =
     let h = c.loop-b.invariant in
     let s = c.stay_of.ensures in
     let below = owing-below c.args.d c.stay_of.result in
-    rw c.owing_of.ensures (
-      clear-end _ _ _ _ _ _ _ _ h _ (omega (arith, c.loop-b-test.false)) (omega (arith, below, s.upper_bound)),
-      (omega (arith, h.near, below, s.upper_bound), (owing-by _ _, sooner-too _ _ _ _ _ _ s.staying below)),
-    )
+    rw c.owing_of.ensures (record {
+      clears = clear-end _ _ _ _ _ _ _ _ h _ (omega (arith, c.loop-b-test.false)) (omega (arith, below, s.upper_bound));
+      upper_bound = omega (arith, h.near, below, s.upper_bound);
+      owing = owing-by _ _;
+      staying = sooner-too _ _ _ _ _ _ s.staying below;
+    })

@@ -11,10 +11,8 @@ use Rattle.edges.specs.declared.Banks.{Banks}
 use Rattle.edges.specs.Views.{kept_of}
 use Rattle.rank.proofs.Filling.{fill_start, fill-turn, fill_end}
 use borrow.Author.Rules.{rules}
+use Rattle.rank.proofs.closing.banks_at.Invariants.{shows}
 use Rattle.rank.proofs.closing.banks_at.Goals as goal
-
-abbrev shows : Chip → Banks → (t b : ℕ) → Shown
-shows C B t b = shown_of (status_of (kept_of C B b) t)
 
 pub loop-i-init : goal.loop-i-init
 loop-i-init c = (search rules, fill_start _ _)

@@ -12,9 +12,6 @@ use Rattle.rank.proofs.Filling.{fill_start, fill-turn, fill_end}
 use borrow.Author.Rules.{rules}
 use Rattle.rank.proofs.deadlines.dues_of.Goals as goal
 
-abbrev due_at : Chip → Banks → (b : ℕ) → ℕ
-due_at C B b = due C (kept_of C B b)
-
 pub loop-i-init : goal.loop-i-init
 loop-i-init c = (search rules, fill_start _ _)
 

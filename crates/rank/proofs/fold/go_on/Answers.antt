@@ -24,16 +24,13 @@ returns-then-r-eq0 c =
 pub step-m-requires : goal.step-m-requires
 step-m-requires c =
     let l = c.loop-at.invariant in
-    let a = c.record_at-r in (
-      l.fit.base.small,
-      (
-        reached-ranged _ _ _ _ _ _ l,
-        (
-          reached-short _ _ _ _ _ _ l c.loop-at-test.true a.result a.ensures,
-          reached-room _ _ _ _ _ _ l c.loop-at-test.true a.result a.ensures,
-        ),
-      ),
-    )
+    let a = c.record_at-r in
+    record {
+      small = l.fit.base.small;
+      ranged = reached-ranged _ _ _ _ _ _ l;
+      step_bound = reached-short _ _ _ _ _ _ l c.loop-at-test.true a.result a.ensures;
+      count_bound = reached-room _ _ _ _ _ _ l c.loop-at-test.true a.result a.ensures;
+    }
 
 pub overflow_add-at : goal.overflow_add-at
 overflow_add-at c =

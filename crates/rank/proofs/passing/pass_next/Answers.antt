@@ -53,4 +53,4 @@ returns c =
         edge = refl;
         level = refl;
         sets = ap (λ x. eqb x 0) c.rank_of-i.ensures;
-      }; unmoved = (λ h. absurd (true≢false h),) }
+      }; unmoved = λ h. absurd (true≢false h) }

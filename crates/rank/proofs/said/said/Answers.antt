@@ -5,7 +5,7 @@ use Rattle.edges.specs.Says.{says_of}
 use Rattle.rank.proofs.said.said.Goals as goal
 
 pub overflow_add-e-5 : goal.overflow_add-e-5
-overflow_add-e-5 c = let p = c.requires.1 in omega (arith, p.0.edge, p.0.count, p.1.0)
+overflow_add-e-5 c = omega (arith, c.requires.ranged.edge, c.requires.ranged.count, c.requires.step_bound)
 
 pub broken_in-rules-requires : goal.broken_in-rules-requires
 broken_in-rules-requires c = record { turn_bound = c.requires.ranged.turn; c_value = c.command_of-c.ensures }

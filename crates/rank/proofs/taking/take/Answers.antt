@@ -18,20 +18,20 @@ returns-then-s-bytes-gt1048576 c = rw (eq-eqb _ _ c.if-bytes-ne0.false, lt-ltb _
 pub returns-then-not-in_range : goal.returns-then-not-in_range
 unfolding taken_of
 returns-then-not-in_range c =
-    let range = sym c.in_range.ensures ∙ not-true _ c.if-not-in_range.true in
+    let range = sym c.in_range.ensures ∙ c.if-not-in_range.true in
     rw (eq-eqb _ _ c.if-bytes-ne0.false, le-ltb _ _ c.if-s-bytes-gt1048576.false, range)
 
 pub returns-then-not-is_small : goal.returns-then-not-is_small
 unfolding taken_of
 returns-then-not-is_small c =
-    let range = sym c.in_range.ensures ∙ not-false _ c.if-not-in_range.false in
-    let small = sym c.is_small.ensures ∙ not-true _ c.if-not-is_small.true in
+    let range = sym c.in_range.ensures ∙ c.if-not-in_range.false in
+    let small = sym c.is_small.ensures ∙ c.if-not-is_small.true in
     rw (eq-eqb _ _ c.if-bytes-ne0.false, le-ltb _ _ c.if-s-bytes-gt1048576.false, range, small)
 
 pub fold-requires : goal.fold-requires
 fold-requires c =
-    let range = sym c.in_range.ensures ∙ not-false _ c.if-not-in_range.false in
-    let small = sym c.is_small.ensures ∙ not-false _ c.if-not-is_small.false in
+    let range = sym c.in_range.ensures ∙ c.if-not-in_range.false in
+    let small = sym c.is_small.ensures ∙ c.if-not-is_small.false in
     record {
       small = small-tested _ small;
       range = ranged _ range;
@@ -42,6 +42,6 @@ fold-requires c =
 pub returns : goal.returns
 unfolding taken_of
 returns c =
-    let range = sym c.in_range.ensures ∙ not-false _ c.if-not-in_range.false in
-    let small = sym c.is_small.ensures ∙ not-false _ c.if-not-is_small.false in
+    let range = sym c.in_range.ensures ∙ c.if-not-in_range.false in
+    let small = sym c.is_small.ensures ∙ c.if-not-is_small.false in
     c.fold.ensures ∙ rw (eq-eqb _ _ c.if-bytes-ne0.false, le-ltb _ _ c.if-s-bytes-gt1048576.false, range, small)
