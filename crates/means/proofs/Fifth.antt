@@ -65,6 +65,9 @@ module _ (C : Chip) (S : Sound C) (p : Past) (hyp : Clean C p) (e : ℕ) where
   pub act-searches : (b : ℕ) → b < 8 → since C e (greatest (closes b) (start C) p) ≡ searched b
   act-searches b small = ap (since C e) (greatest-latest C b small p hyp) ∙ latest-searches b small
 
+  nowhere : (x : Past) → x ∈ [] → ⊥
+  nowhere x j = elim j [ ]
+
   -- the event of the greatest start is the latest that closes its own bank
   own-latest : (g : Past) → Greatest shuts (start C) p g → g ≡ latest (closes (bank_of g)) p
   own-latest g w = ⊎_elim
@@ -73,7 +76,7 @@ module _ (C : Chip) (S : Sound C) (p : Past) (hyp : Clean C p) (e : ℕ) where
       (unchanged-or (closes (bank_of g)) w.event)
     where
       later : (m : Past) → m ∈ p → g ∈ tail m → closes (bank_of g) m ≡ true → ⊥
-      later [] i j y = elim j [ ]
+      later [] i j y = absurd (nowhere g j)
       later (r ∷ q) i j y =
           omega (arith, w.last (r ∷ q) i (closes-shuts (bank_of g) (r ∷ q) y) (omega (arith, number-le j)), starts C (bank_of g) (bank-small g) p (r ∷ q) g hyp i j y (shuts-own g w.kind))
 

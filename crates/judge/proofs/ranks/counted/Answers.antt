@@ -1,0 +1,16 @@
+-- The steps are those of all records, and both ranks have them.
+-- Assumes nothing.
+use mathlib.Core.Path.{◌∙◌}
+use Rattle.judge.proofs.Counted.{later-fits, counted_is}
+use Rattle.judge.proofs.ranks.counted.Goals as goal
+
+pub later-one-requires : goal.later-one-requires
+later-one-requires c = later-fits _ c.requires.bytes_len _ c.steps_in-steps.ensures _ c.requires.fit
+
+pub later-two-requires : goal.later-two-requires
+later-two-requires c = later-fits _ c.requires.bytes_len _ c.steps_in-steps.ensures _ c.requires.fit_2
+
+pub returns : goal.returns
+returns c =
+    c.pair.ensures
+    ∙ counted_is _ c.requires.bytes_len _ c.steps_in-steps.ensures c.args.start c.requires.fit _ _ c.later-one.ensures c.later-two.ensures
