@@ -24,7 +24,8 @@ overflow_sub-after c =
 
 pub later-on-requires : goal.later-on-requires
 later-on-requires c =
-    beside-fits c.args.chip c.args.second c.rank_in-judged.result c.alone-r.result.rank c.args.bytes.now (c.alone-r.ensures.after c.if-r.false) _ (able-in c.requires.ready (not c.args.second) _ c.rank_in-other.ensures)
+    let fits = beside-fits c.args.chip c.args.second c.rank_in-judged.result c.alone-r.result.rank c.args.bytes.now (c.alone-r.ensures.after c.if-r.false) _ (able-in c.requires.ready (not c.args.second) _ c.rank_in-other.ensures) in
+    record { steps_bound = fits.0; records_bound = fits.1 }
 
 pub returns-then-second : goal.returns-then-second
 returns-then-second c =
