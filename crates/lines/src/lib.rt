@@ -1,5 +1,5 @@
 // The program's one line, of a verdict or of a refusal: 01, P8 to P10. Numbers are in decimal, and a newline ends the line.
-ghost use Rattle.std.specs.Prelude.{◌+◌, ◌≤◌, length};
+ghost use Rattle.std.specs.Prelude.{◌≡◌, ◌+◌, ◌≤◌, ◌++◌, length, take, drop};
 ghost use Rattle.lines.specs.Line.{spaced, clean_words, broken_words};
 ghost use Rattle.lines.specs.Parts.{Put};
 ghost use Rattle.lines.specs.Promises.{VerdictLine, RefusalLine, VerdictWords};
@@ -76,6 +76,15 @@ fn put(out: &mut [u8], at: usize, text: &[u8]) -> usize
     requires { at + length text.now ≤ length out.old }
     ensures { Put text.now at out.old result out.new }
 {
-    out[at..at + text.len()].copy_from_slice(text);
-    at + text.len()
+    at + copy(text, &mut out[at..])
+}
+
+// A text at the start of the lent bytes, and its length.
+fn copy(text: &[u8], out: &mut [u8]) -> usize
+    requires { length text.now ≤ length out.old }
+    ensures count { result ≡ length text.now }
+    ensures put { out.new ≡ take (length text.now) text.now ++ drop (length text.now) out.old }
+{
+    out[..text.len()].copy_from_slice(text);
+    text.len()
 }
