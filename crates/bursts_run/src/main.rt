@@ -1,5 +1,6 @@
 // Prints the order of every burst, a line each: by length, direction, type and start.
-use libc::STDOUT_FILENO;
+// Standard output, by number.
+const STDOUT_FILENO: i32 = 1;
 
 fn main() {
     let mut eight = [0u8; 8];

@@ -2,7 +2,9 @@
 // header, the register's number, the code's two, and the length of the buffer lent, at most 8.
 ghost use Rattle.std.specs.Prelude.{◌≡◌, length};
 
-use libc::{STDIN_FILENO, STDOUT_FILENO};
+// The standard streams, by number.
+const STDIN_FILENO: i32 = 0;
+const STDOUT_FILENO: i32 = 1;
 
 const CALL: usize = 10;
 

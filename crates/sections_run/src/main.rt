@@ -15,7 +15,9 @@
 mod show;
 
 use judge::State;
-use libc::STDIN_FILENO;
+
+// Standard input, by number.
+const STDIN_FILENO: i32 = 0;
 
 // The refusal that ended the case (0: none), and the state.
 #[derive(Clone, Copy)]

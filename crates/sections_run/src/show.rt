@@ -3,8 +3,10 @@ use crate::Run;
 use answers::{End, Register, Shown, Verdict};
 use edges::Waits;
 use judge::Taken;
-use libc::STDOUT_FILENO;
 use lines::ROOM;
+
+// Standard output, by number.
+const STDOUT_FILENO: i32 = 1;
 
 // As an end edge: the last record's.
 const LAST: u64 = 281474976710655;

@@ -4,9 +4,12 @@ ghost use Rattle.std.specs.Prelude.{◌≡◌, length};
 ghost use Rattle.verdict.specs.Reading.{Opened, Took, Ran, Judged, Told, ToldSecond};
 
 use judge::State;
-use libc::{STDIN_FILENO, STDOUT_FILENO};
 use lines::ROOM;
 use program::{BLOCK, Run};
+
+// The standard streams, by number.
+const STDIN_FILENO: i32 = 0;
+const STDOUT_FILENO: i32 = 1;
 
 // A block's records, at least: of edition 2.
 const RECORDS: u64 = 7500;
