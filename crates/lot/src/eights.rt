@@ -1,6 +1,5 @@
 // Sections of edition 2, whose records have eight bytes, through what is written for six: each rank's view of them.
 use crate::text::put;
-use libc::STDOUT_FILENO;
 use tally::{Sought, Spot, Tallied, Tally};
 
 // A section's bytes, narrowed.
@@ -84,5 +83,5 @@ fn four(a: u8, b: u8, c: u8, d: u8) {
 }
 
 fn two(a: u8, b: u8) {
-    io::print_hex(STDOUT_FILENO, a as u64 * 256 + b as u64, 4);
+    io::print_hex(crate::text::STDOUT_FILENO, a as u64 * 256 + b as u64, 4);
 }

@@ -2,6 +2,7 @@
 use crate::text::{hex, value};
 use crate::values::listed;
 use crate::{eights, values};
+use std::fs::File;
 use tally::{Placed, Sought, Spot};
 
 // The first file's place among the arguments.
@@ -17,7 +18,7 @@ struct Search {
     second: bool,
 }
 
-pub(crate) fn list(from: u64, to: u64, limit: u64, second: bool, end: usize) {
+pub(crate) fn list(rt: &HostRuntime, from: u64, to: u64, limit: u64, second: bool, end: usize) {
     let start = Search {
         last: number_before(from),
         to: to,
@@ -25,14 +26,8 @@ pub(crate) fn list(from: u64, to: u64, limit: u64, second: bool, end: usize) {
         edition: 1,
         second: second,
     };
-    let s = files(start, end);
+    let s = files(rt, start, end);
     value(b"records_before", s.spot.reached.before);
-}
-
-fn opened(i: usize) -> i32 {
-    let mut path = io::buffer();
-    let k = os::arg(i, &mut path);
-    os::open_read(&path[..k])
 }
 
 // Records count from 1.
@@ -43,36 +38,34 @@ fn number_before(n: u64) -> u64 {
     n - 1
 }
 
-fn files(start: Search, end: usize) -> Search {
+fn files(rt: &HostRuntime, start: Search, end: usize) -> Search {
     let mut s = start;
     let mut i = FIRST;
     while i < end {
-        s = file(s, i, i == FIRST);
+        s = file(rt, s, i, i == FIRST);
         i += 1;
     }
     s
 }
 
 // A file that cannot be opened has a number and no records.
-fn file(s: Search, i: usize, headed: bool) -> Search {
+fn file(rt: &HostRuntime, s: Search, i: usize, headed: bool) -> Search {
     let mut n = s;
     n.spot = s.spot.begun(headed);
-    let fd = opened(i);
-    if fd < 0 {
+    let file = inputs::open(rt, i);
+    if file.is_none() {
         return n;
     }
     if headed {
-        n.edition = header_edition(fd);
+        n.edition = header_edition(&file);
     }
-    let end = sections(n, fd);
-    libc::close(fd);
-    end
+    sections(n, &file)
 }
 
 // Reads the header, and tells an edition that is not 1.
-fn header_edition(fd: i32) -> u64 {
+fn header_edition(file: &Option<File>) -> u64 {
     let mut header = [0u8; 6];
-    let k = io::read_full(fd, &mut header);
+    let k = inputs::fill(file, &mut header);
     let edition = header::edition_for(&header[..k]);
     if edition == 2 {
         values::edition(edition);
@@ -80,12 +73,12 @@ fn header_edition(fd: i32) -> u64 {
     edition
 }
 
-fn sections(start: Search, fd: i32) -> Search {
+fn sections(start: Search, file: &Option<File>) -> Search {
     let mut s = start;
     let mut turns = u64::MAX;
     while turns > 0 {
         let before = s.spot.at;
-        s = section(s, fd);
+        s = section(s, file);
         if s.spot.at == before {
             return s;
         }
@@ -94,9 +87,9 @@ fn sections(start: Search, fd: i32) -> Search {
     s
 }
 
-fn section(s: Search, fd: i32) -> Search {
+fn section(s: Search, file: &Option<File>) -> Search {
     let mut space = [0u8; 6000];
-    let k = io::read_full(fd, &mut space);
+    let k = inputs::fill(file, &mut space);
     let mut n = all(s, &space[..k]);
     n.spot = passed(s, &space[..k]);
     n

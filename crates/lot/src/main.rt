@@ -35,33 +35,27 @@ struct Lot {
     two: Tally,
 }
 
-fn main() {
-    let end = os::arg_count();
-    if asks_for(b"--list") {
-        find::list(number_at(2), number_at(3), number_at(4), false, end);
+fn main(rt: HostRuntime) {
+    let end = inputs::count(&rt);
+    if inputs::is(&rt, 1, b"--list") {
+        find::list(&rt, number_at(&rt, 2), number_at(&rt, 3), number_at(&rt, 4), false, end);
         return;
     }
-    if asks_for(b"--second") {
-        find::list(number_at(2), number_at(3), number_at(4), true, end);
+    if inputs::is(&rt, 1, b"--second") {
+        find::list(&rt, number_at(&rt, 2), number_at(&rt, 3), number_at(&rt, 4), true, end);
         return;
     }
     if end <= 1 {
         text::put(b"usage: lot [--list FROM TO EDGE | --second FROM TO EDGE] FILE..\n");
         return;
     }
-    answer(judged(end));
-}
-
-fn asks_for(what: &[u8]) -> bool {
-    let mut word = [0u8; 9];
-    let n = os::arg(1, &mut word);
-    check::same(&word[..n], what)
+    answer(judged(&rt, end));
 }
 
 // The number that an argument spells.
-fn number_at(i: usize) -> u64 {
+fn number_at(rt: &HostRuntime, i: usize) -> u64 {
     let mut digits = [0u8; 20];
-    let n = os::arg(i, &mut digits);
+    let n = inputs::read(rt, i, &mut digits);
     spelled(&digits[..n])
 }
 
@@ -84,12 +78,12 @@ fn tens(n: u64, digit: u8) -> u64 {
     std::num::wrapping_add_u64(ten, std::num::wrapping_sub_u64(digit as u64, 48))
 }
 
-fn judged(end: usize) -> Lot {
-    let mut lot = reading::first();
+fn judged(rt: &HostRuntime, end: usize) -> Lot {
+    let mut lot = reading::first(rt);
     let mut i: usize = 1;
     while i < end {
         if i != 1 {
-            lot = reading::later(lot, i);
+            lot = reading::later(rt, lot, i);
         }
         i += 1;
     }

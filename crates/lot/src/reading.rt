@@ -2,52 +2,47 @@
 use crate::{Lot, Place, eights, values};
 use header::Header;
 use judge::State;
+use std::fs::File;
 use tally::{Tallied, Tally};
 
 // A section's bytes.
 const SECTION: usize = 6000;
 
 // The lot's first file: the header, and the records behind it.
-pub(crate) fn first() -> Lot {
-    let fd = opened(1);
-    let start = headed(fd);
-    let end = sections(start, fd);
-    libc::close(fd);
-    end
+pub(crate) fn first(rt: &HostRuntime) -> Lot {
+    let file = opened(rt, 1);
+    let start = headed(&file);
+    sections(start, &file)
 }
 
 // A later file.
-pub(crate) fn later(lot: Lot, i: usize) -> Lot {
+pub(crate) fn later(rt: &HostRuntime, lot: Lot, i: usize) -> Lot {
     if lot.place.stopped {
         return lot;
     }
-    let fd = opened(i);
-    let place = begun(i, fd, lot.state.one.count, lot.state.one.edge);
-    let end = sections(moved(lot, place), fd);
-    libc::close(fd);
-    end
+    let file = opened(rt, i);
+    let place = begun(i, file.is_some(), lot.state.one.count, lot.state.one.edge);
+    sections(moved(lot, place), &file)
 }
 
-// A descriptor, or what is below 0 where the file cannot be opened.
-fn opened(i: usize) -> i32 {
-    let mut path = io::buffer();
-    let k = os::arg(i, &mut path);
-    let fd = os::open_read(&path[..k]);
-    if fd < 0 {
+// The file, where it can be opened.
+fn opened(rt: &HostRuntime, i: usize) -> Option<File> {
+    let file = inputs::open(rt, i);
+    if file.is_none() {
         values::trouble(i as u64, b"why unopened\n");
     }
-    fd
+    file
 }
 
-fn begun(i: usize, fd: i32, count: u32, edge: u64) -> Place {
+fn begun(i: usize, open: bool, count: u32, edge: u64) -> Place {
     Place {
         file: i,
         at: 0,
         count: count as u64,
         edge: edge,
         headed: false,
-        more: 0 <= fd,
-        stopped: fd < 0,
+        more: open,
+        stopped: !open,
     }
 }
 
@@ -57,12 +52,12 @@ fn moved(lot: Lot, place: Place) -> Lot {
     n
 }
 
-fn headed(fd: i32) -> Lot {
+fn headed(file: &Option<File>) -> Lot {
     let mut header = [0u8; 6];
-    let k = io::read_full(fd, &mut header);
+    let k = inputs::fill(file, &mut header);
     let o = State::open(&header[..k]);
     let state = o.state;
-    let place = behind_header(begun(1, fd, 0, 0), fd, k, o.refused);
+    let place = behind_header(begun(1, file.is_some(), 0, 0), file, k, o.refused);
     part(place.stopped, state.edition, state.header);
     let tally = Tally::start();
     Lot {
@@ -75,8 +70,8 @@ fn headed(fd: i32) -> Lot {
 }
 
 // The place behind k bytes of a header.
-fn behind_header(p: Place, fd: i32, k: usize, refused: u64) -> Place {
-    let start = behind(p, fd, k == 6, k);
+fn behind_header(p: Place, file: &Option<File>, k: usize, refused: u64) -> Place {
+    let start = behind(p, file, k == 6, k);
     if start.stopped {
         return start;
     }
@@ -100,13 +95,13 @@ fn part(stopped: bool, edition: u64, h: Header) {
 }
 
 // The place behind k bytes more; what is not full is to be the file's end.
-fn behind(p: Place, fd: i32, full: bool, k: usize) -> Place {
+fn behind(p: Place, file: &Option<File>, full: bool, k: usize) -> Place {
     let mut n = p;
     if p.stopped {
         return n;
     }
     if !full {
-        if !ended(fd) {
+        if !inputs::ends(file) {
             values::trouble(p.file as u64, b"why unread\n");
             return stopped(p);
         }
@@ -127,30 +122,24 @@ fn stopped(p: Place) -> Place {
     n
 }
 
-// Does the file end here? A read that fails is no end.
-fn ended(fd: i32) -> bool {
-    let mut next = [0u8; 1];
-    libc::read(fd, &mut next) == 0
-}
-
 // Section after section. Nothing says that a file ends, so the turns count down from a number that no run uses up.
-fn sections(start: Lot, fd: i32) -> Lot {
+fn sections(start: Lot, file: &Option<File>) -> Lot {
     let mut lot = start;
     let mut turns = u64::MAX;
     while turns > 0 {
         if !lot.place.more {
             return lot;
         }
-        lot = section(lot, fd);
+        lot = section(lot, file);
         turns -= 1;
     }
     lot
 }
 
-fn section(lot: Lot, fd: i32) -> Lot {
+fn section(lot: Lot, file: &Option<File>) -> Lot {
     let mut space = [0u8; SECTION];
-    let k = io::read_full(fd, &mut space);
-    let mut place = behind(lot.place, fd, k == SECTION, k);
+    let k = inputs::fill(file, &mut space);
+    let mut place = behind(lot.place, file, k == SECTION, k);
     if place.stopped {
         return moved(lot, place);
     }

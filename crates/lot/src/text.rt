@@ -1,7 +1,8 @@
 // Words and numbers on standard output.
 ghost use Rattle.std.specs.Prelude.{◌≤◌, length};
 
-use libc::STDOUT_FILENO;
+// Standard output, by number.
+pub(crate) const STDOUT_FILENO: i32 = 1;
 
 pub(crate) fn put(text: &[u8]) {
     io::write_all(STDOUT_FILENO, text);

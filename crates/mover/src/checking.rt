@@ -3,6 +3,7 @@
 use crate::file;
 use crate::file::SECTION;
 use moves::Check;
+use std::fs::File;
 
 // What the reading came to so far. unread: the file could not be read, which was told.
 #[derive(Clone, Copy)]
@@ -12,15 +13,13 @@ pub(crate) struct Found {
     pub(crate) check: Check,
 }
 
-pub(crate) fn checked(widens: bool) -> Found {
-    let fd = file::opened();
+pub(crate) fn checked(rt: &HostRuntime, widens: bool) -> Found {
+    let source = file::opened(rt);
     let edition = from(widens);
-    if fd < 0 {
+    if source.is_none() {
         return failed(Check::begun(b"", edition));
     }
-    let end = sections(headed(fd, edition), fd);
-    libc::close(fd);
-    end
+    sections(headed(&source, edition), &source)
 }
 
 // The edition that a move starts from.
@@ -39,11 +38,11 @@ fn failed(c: Check) -> Found {
     }
 }
 
-fn headed(fd: i32, edition: u64) -> Found {
+fn headed(source: &Option<File>, edition: u64) -> Found {
     let mut header = [0u8; 6];
-    let k = io::read_full(fd, &mut header);
+    let k = inputs::fill(source, &mut header);
     let c = Check::begun(&header[..k], edition);
-    if !whole(fd, k == 6) {
+    if !whole(source, k == 6) {
         return failed(c);
     }
     Found {
@@ -54,11 +53,11 @@ fn headed(fd: i32, edition: u64) -> Found {
 }
 
 // What is not full is to be the file's end.
-fn whole(fd: i32, full: bool) -> bool {
+fn whole(source: &Option<File>, full: bool) -> bool {
     if full {
         return true;
     }
-    if file::ends(fd) {
+    if inputs::ends(source) {
         return true;
     }
     file::unread();
@@ -66,24 +65,24 @@ fn whole(fd: i32, full: bool) -> bool {
 }
 
 // Section after section. Nothing says that a file ends, so the turns count down from a number that no run uses up.
-fn sections(start: Found, fd: i32) -> Found {
+fn sections(start: Found, source: &Option<File>) -> Found {
     let mut f = start;
     let mut turns = u64::MAX;
     while turns > 0 {
         if !f.more {
             return f;
         }
-        f = section(f, fd);
+        f = section(f, source);
         turns -= 1;
     }
     f
 }
 
-fn section(f: Found, fd: i32) -> Found {
+fn section(f: Found, source: &Option<File>) -> Found {
     let mut space = [0u8; SECTION];
-    let k = io::read_full(fd, &mut space);
+    let k = inputs::fill(source, &mut space);
     let before = f.check;
-    if !whole(fd, k == SECTION) {
+    if !whole(source, k == SECTION) {
         return failed(before);
     }
     let c = before.over(&space[..k]);

@@ -1,24 +1,19 @@
 // The file that the second argument names, and words on standard error.
-use libc::STDERR_FILENO;
+use std::fs::File;
+
+// Standard error, by number.
+const STDERR_FILENO: i32 = 2;
 
 // A section's bytes: whole records in both editions.
 pub(crate) const SECTION: usize = 6000;
 
-// A descriptor, or what is below 0 where the file cannot be opened.
-pub(crate) fn opened() -> i32 {
-    let mut path = io::buffer();
-    let k = os::arg(2, &mut path);
-    let fd = os::open_read(&path[..k]);
-    if fd < 0 {
+// The file, where it can be opened.
+pub(crate) fn opened(rt: &HostRuntime) -> Option<File> {
+    let file = inputs::open(rt, 2);
+    if file.is_none() {
         tell(b"why unopened\n");
     }
-    fd
-}
-
-// Does the file end here? A read that fails is no end.
-pub(crate) fn ends(fd: i32) -> bool {
-    let mut next = [0u8; 1];
-    libc::read(fd, &mut next) == 0
+    file
 }
 
 pub(crate) fn unread() {

@@ -6,17 +6,17 @@ mod checking;
 mod file;
 mod writing;
 
-fn main() {
-    if os::arg_count() != 3 {
+fn main(rt: HostRuntime) {
+    if inputs::count(&rt) != 3 {
         usage();
         return;
     }
-    if asks_to(b"widen") {
-        run(true);
+    if inputs::is(&rt, 1, b"widen") {
+        run(&rt, true);
         return;
     }
-    if asks_to(b"narrow") {
-        run(false);
+    if inputs::is(&rt, 1, b"narrow") {
+        run(&rt, false);
         return;
     }
     usage();
@@ -26,14 +26,8 @@ fn usage() {
     file::tell(b"usage: mover widen IN, or mover narrow IN\n");
 }
 
-fn asks_to(word: &[u8]) -> bool {
-    let mut first = [0u8; 7];
-    let n = os::arg(1, &mut first);
-    check::same(&first[..n], word)
-}
-
-fn run(widens: bool) {
-    let f = checking::checked(widens);
+fn run(rt: &HostRuntime, widens: bool) {
+    let f = checking::checked(rt, widens);
     if f.unread {
         return;
     }
@@ -43,5 +37,5 @@ fn run(widens: bool) {
         file::refusal(refused as u64);
         return;
     }
-    writing::write(widens, c.bytes);
+    writing::write(rt, widens, c.bytes);
 }

@@ -4,23 +4,25 @@ ghost use Rattle.io.specs.Counts.{IsPrefixLen};
 
 use crate::file;
 use crate::file::SECTION;
-use libc::STDOUT_FILENO;
+use std::fs::File;
+
+// Standard output, by number.
+const STDOUT_FILENO: i32 = 1;
 
 // The header, and so many bytes of records.
-pub(crate) fn write(widens: bool, bytes: u64) {
-    let fd = file::opened();
-    if fd < 0 {
+pub(crate) fn write(rt: &HostRuntime, widens: bool, bytes: u64) {
+    let source = file::opened(rt);
+    if source.is_none() {
         return;
     }
-    if headed(fd, widens) {
-        sections(fd, widens, bytes);
+    if headed(&source, widens) {
+        sections(&source, widens, bytes);
     }
-    libc::close(fd);
 }
 
-fn headed(fd: i32, widens: bool) -> bool {
+fn headed(source: &Option<File>, widens: bool) -> bool {
     let mut header = [0u8; 6];
-    let k = io::read_full(fd, &mut header);
+    let k = inputs::fill(source, &mut header);
     if k != 6 {
         file::unread();
         return false;
@@ -40,11 +42,11 @@ fn to(widens: bool) -> u8
 }
 
 // Section after section, up to the end or to one that cannot be read or written.
-fn sections(fd: i32, widens: bool, bytes: u64) {
+fn sections(source: &Option<File>, widens: bool, bytes: u64) {
     let mut left = bytes;
     while left > 0 {
         let n = least(left);
-        if !section(fd, widens, n) {
+        if !section(source, widens, n) {
             return;
         }
         left -= n as u64;
@@ -63,11 +65,11 @@ fn least(left: u64) -> usize
 }
 
 // n bytes more of records, or false.
-fn section(fd: i32, widens: bool, n: usize) -> bool
+fn section(source: &Option<File>, widens: bool, n: usize) -> bool
     requires { n ≤ 6000 }
 {
     let mut space = [0u8; SECTION];
-    let k = io::read_full(fd, &mut space);
+    let k = inputs::fill(source, &mut space);
     if k < n {
         file::unread();
         return false;
