@@ -1,6 +1,6 @@
 /* manilaply: what a C program can call of the DDR3 judge.
  *
- * Link target/staticlib/libfirmware.a (`rt staticlib firmware`), which needs memcpy and memset of C
+ * Link crates/firmware/out/libfirmware.a (`sh tools/machine archive`), which needs memcpy and memset of C
  * and nothing else. No function here keeps state, allocates, or keeps a pointer after it returns.
  *
  * Every function answers 0, or the number of a refusal. A refusal writes no byte. Where several

@@ -14,7 +14,7 @@ class Failed(Exception):
 
 
 def path(name):
-    return ROOT / 'target/bin' / name
+    return ROOT / 'crates' / name / 'out' / name
 
 
 def fresh(name):
@@ -35,23 +35,23 @@ def built(name):
     if not rt:
         raise Failed(f'the program {what}, and rt is not to be found to build it (README.md, "Use")')
     if not os.access(ROOT, os.W_OK):
-        raise Failed(f'the program {what}, and {ROOT} cannot be written; run `rt check verdict lot mover` where it can')
+        raise Failed(f'the program {what}, and {ROOT} cannot be written; run `sh tools/machine program verdict lot mover` where it can')
     print(f'judge: proving and building {name}; this takes some minutes, once', file=sys.stderr, flush=True)
-    prove(rt, name)
+    prove(name)
 
 
-def prove(rt, name):
-    """Runs rt with one line a crate; all that it says only where it fails."""
+def prove(name):
+    """Has rt prove and build it, with one line a crate; all that it says only where it fails."""
     told = []
-    with subprocess.Popen([rt, 'check', name], cwd=ROOT, stdin=subprocess.DEVNULL, stdout=subprocess.PIPE, stderr=subprocess.STDOUT) as run:
+    with subprocess.Popen(['sh', 'tools/machine', 'program', name], cwd=ROOT, stdin=subprocess.DEVNULL, stdout=subprocess.PIPE, stderr=subprocess.STDOUT) as run:
         for line in run.stdout:
             told.append(line)
-            if line.startswith(b'rt: ') and b' proved (' in line:
-                sys.stderr.write('judge: ' + line.decode(errors='replace')[4:])
+            if line.startswith(b'crate '):
+                sys.stderr.write('judge: ' + line.decode(errors='replace').split(':')[0] + ' proved\n')
                 sys.stderr.flush()
     if run.returncode != 0 or not os.access(path(name), os.X_OK):
         sys.stderr.write(b''.join(told).decode(errors='replace'))
-        raise Failed(f'rt check {name} failed; what it said is above')
+        raise Failed(f'sh tools/machine program {name} failed; what it said is above')
     os.utime(path(name))  # rt leaves a program as it is whose own sources did not change
 
 

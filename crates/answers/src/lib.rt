@@ -1,4 +1,6 @@
 // What a judge answers: what a record or an edge breaks, a bank, a register, a verdict with its 20 bytes, what stands at the end.
+#![tactic(auto)]
+
 mod report;
 
 pub use report::{put_verdict, put_verdicts, verdict_bytes};

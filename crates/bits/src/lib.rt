@@ -1,4 +1,6 @@
 // Six bytes as one word, most significant first: a header and a record are six bytes each.
+#![tactic(auto)]
+
 ghost use Rattle.bits.specs.Promises.{Word};
 
 pub fn word(b0: u8, b1: u8, b2: u8, b3: u8, b4: u8, b5: u8) -> u64

@@ -1,5 +1,7 @@
 // Burst order: which word of a burst comes when (01, "Registers", last paragraph). No order is stored: each word is worked
 // out from the start and its position, eight at once, and a call copies as many as the burst has into the lent buffer.
+#![tactic(auto)]
+
 ghost use Rattle.std.specs.Prelude.{◌≡◌, ◌+◌, ◌<◌};
 ghost use Rattle.bursts.specs.Burst.{sequential, interleave, word_of, words_from, Ordered};
 ghost use Rattle.bursts.specs.Parts.{write_start, Put};

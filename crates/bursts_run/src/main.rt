@@ -1,3 +1,5 @@
+#![tactic(auto)]
+
 // Prints the order of every burst, a line each: by length, direction, type and start.
 // Standard output, by number.
 const STDOUT_FILENO: i32 = 1;

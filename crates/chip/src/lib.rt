@@ -1,4 +1,6 @@
 // The part that is judged: a header's clock counts as plain numbers, worked out once, and what the registers in force set.
+#![tactic(auto)]
+
 mod latencies;
 mod part;
 

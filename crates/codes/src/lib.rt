@@ -1,4 +1,6 @@
 // The fields of a register's code, and the latencies of the codes in force.
+#![tactic(auto)]
+
 ghost use Rattle.codes.specs.Promises.{Cl, Wr, Resets, Al, Cwl, Rl, Wl};
 
 // CL by its code A6A5A4A2; 0: not listed.

@@ -1,6 +1,6 @@
 -- The lane: frequent commands, and seldom ones that may come, over what is kept in arrays. Where it stands between two records.
 -- Assumes nothing.
-use Rattle.std.specs.Prelude.{ℕ, ◌+◌, ◌-◌, ◌≤◌, ◌<◌, Bool, true, false, cond, not, ◌&&◌, List, ◌⊎◌, ◌≡◌, eqb, leb, ltb, get_or, length}
+use Rattle.std.specs.Prelude.{ℕ, ◌+◌, ◌≤◌, ◌<◌, Bool, true, false, cond, not, ◌&&◌, List, ◌⊎◌, ◌≡◌, eqb, leb, ltb, get_or, length}
 use Rattle.laws.specs.Any.{any_of}
 use Rattle.laws.specs.Eight.{table}
 use Rattle.codes.specs.Codes.{set}

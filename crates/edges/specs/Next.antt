@@ -5,7 +5,7 @@ use Rattle.laws.specs.Any.{any_of}
 use Rattle.laws.specs.Eight.{table}
 use Rattle.records.specs.declared.Record.{Record}
 use Rattle.records.specs.declared.Command.{Command}
-use Rattle.records.specs.declared.Command.TheVariants.{Mrs, Ref, Pre, Act, Wr, Rd, Zq, Sre, Srx, Pdx}
+use Rattle.records.specs.declared.Command.TheVariants.{Mrs, Ref, Act, Wr, Rd, Zq, Sre, Srx, Pdx}
 use Rattle.records.specs.Command.{is_a, bank_in}
 use Rattle.codes.specs.Codes.{set as set1}
 use Rattle.chip.specs.declared.Chip.{Chip}

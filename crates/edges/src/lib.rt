@@ -1,5 +1,7 @@
 // The types of what is kept of one rank, as edges: what can be an edge is an edge, so that a record that changes nothing changes no counter.
 // The definitions stand in specs/, their laws in proofs/; the code stands in the crates above.
+#![tactic(auto)]
+
 use answers::Verdict;
 
 // Refresh debt, if no REF came: due is the edge at which 9 would be owed, gap that at which the last REF is more than nine intervals back. Of

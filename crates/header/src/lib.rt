@@ -1,4 +1,6 @@
 // The six header bytes of a recording, the four bins, and the clock counts of a header.
+#![tactic(auto)]
+
 mod bins;
 mod counts;
 mod opening;

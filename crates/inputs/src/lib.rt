@@ -3,8 +3,7 @@
 
 ghost use Rattle.io.specs.Counts.{IsPrefixLen};
 
-use std::env::Env;
-use std::env::FillError;
+use std::env::{Env, FillError};
 use std::fs::File;
 use std::io::Read;
 use std::os::fd::AsRawFd;

@@ -1,4 +1,6 @@
 // What a record breaks by what is kept: rules 1 to 23, 26, 27, 29 and 30.
+#![tactic(auto)]
+
 mod bank;
 mod breaks;
 mod down;

@@ -1,4 +1,6 @@
 // The program's one line, of a verdict or of a refusal: 01, P8 to P10. Numbers are in decimal, and a newline ends the line.
+#![tactic(auto)]
+
 ghost use Rattle.std.specs.Prelude.{◌≡◌, ◌+◌, ◌≤◌, ◌++◌, length, take, drop};
 ghost use Rattle.lines.specs.Line.{spaced, clean_words, broken_words};
 ghost use Rattle.lines.specs.Parts.{Put};

@@ -2,6 +2,8 @@
 // bytes: first for the checks, in the order in which `moves` makes them but for 9, and then to write the moved recording to standard output. So a
 // move that is refused writes nothing there. A refusal, and a file that cannot be read, is told on standard error. A program has no exit status
 // to set.
+#![tactic(auto)]
+
 mod checking;
 mod file;
 mod writing;

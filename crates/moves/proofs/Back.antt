@@ -1,7 +1,7 @@
 -- "There and back gives the same bytes, from either side", of whole recordings and of the two calls; and the way back is refused for no reason
 -- but room: 02, Q-7.
 -- Assumes nothing.
-use Rattle.std.proofs.Common.{◌≡◌, ℕ, ◌+◌, ◌%◌, ◌≤◌, Bool, true, false, cond, List, ◌++◌, map, length, take, drop, sym, refl, ap, ◌∙◌, arith, take-append-drop, take_at, drop_at}
+use Rattle.std.proofs.Common.{◌≡◌, ℕ, ◌%◌, ◌≤◌, Bool, true, false, cond, List, ◌++◌, map, length, take, drop, sym, refl, ap, ◌∙◌, arith, take-append-drop, take_at, drop_at}
 use Rattle.laws.proofs.Lent.{success-writes}
 use Rattle.records.specs.Record.{records, has_zero}
 use Rattle.wide.specs.declared.Seen.{Seen}

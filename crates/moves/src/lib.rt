@@ -1,5 +1,7 @@
 // A whole recording moved to the other edition: 02, Q-7. A move that is refused writes nothing. And the checks of a move, of a recording that
 // comes in sections.
+#![tactic(auto)]
+
 mod checks;
 
 ghost use Rattle.std.specs.Prelude.{◌≡◌, ◌<◌, ◌≤◌, ◌++◌, length, take, drop};

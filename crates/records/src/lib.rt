@@ -1,4 +1,6 @@
 // A record of the recording, and the command that it gives.
+#![tactic(auto)]
+
 ghost use Rattle.std.specs.Prelude.{◌≡◌};
 ghost use Rattle.records.specs.Record.{fields_of};
 ghost use Rattle.records.specs.Command.{by_pins, falling, rising};

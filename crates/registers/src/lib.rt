@@ -1,4 +1,6 @@
 // The mode registers MR0 to MR3: which codes a header allows, which field of a code it does not, and register reading.
+#![tactic(auto)]
+
 mod decoding;
 mod permit;
 mod reading;

@@ -1,9 +1,12 @@
 // Answers the register readings that standard input lists, a line each. A call is ten bytes: six of
 // header, the register's number, the code's two, and the length of the buffer lent, at most 8.
+#![tactic(auto)]
+
 ghost use Rattle.std.specs.Prelude.{◌≡◌, length};
 
 // The standard streams, by number.
 const STDIN_FILENO: i32 = 0;
+
 const STDOUT_FILENO: i32 = 1;
 
 const CALL: usize = 10;

@@ -1,5 +1,7 @@
 // The types of the running judge: what is kept of the records so far, and no record. Its definitions stand in specs/, their laws in
 // proofs/; the code stands in the crates above.
+#![tactic(auto)]
+
 use answers::Verdict;
 use chip::Regs;
 

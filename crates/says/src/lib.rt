@@ -1,4 +1,6 @@
 // What is said of an edge: which deadline is the sooner, and the verdict.
+#![tactic(auto)]
+
 mod deadlines;
 mod says;
 

@@ -1,5 +1,7 @@
 // Picoseconds and clocks, kept apart as the standard keeps ns and nCK: two types of one field each.
 // Only the two roundings here turn the one into the other. A period of 0 gives 0 clocks.
+#![tactic(auto)]
+
 ghost use Rattle.units.specs.Promises.{Up, Down};
 
 #[derive(Clone, Copy)]

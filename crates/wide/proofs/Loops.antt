@@ -15,7 +15,7 @@ use Rattle.records.proofs.Pieces.{no-piece, pieces-append}
 use Rattle.records.proofs.Records.{front}
 use Rattle.wide.specs.declared.Part.{Part}
 use Rattle.wide.specs.Spread.{spread}
-use Rattle.wide.specs.Wide.{fields_of, wide_at, wides, rank_of, has_spare}
+use Rattle.wide.specs.Wide.{wide_at, wides, rank_of, has_spare}
 use Rattle.wide.specs.Moved.{packed, bytes6, packed_wide, bytes8, widened, widen, narrow}
 use Rattle.wide.specs.Promises.{Narrowed, Widened}
 use Rattle.wide.proofs.Wides.{piece-at, wides-append, spare_of}

@@ -1,4 +1,6 @@
 // The record of edition 2: 02, Q-7. Records moved from one edition to the other, and what stands in the way of a move.
+#![tactic(auto)]
+
 mod checks;
 mod low;
 mod moved;

@@ -11,17 +11,17 @@ pub returns-then-start-gt7 : goal.returns-then-start-gt7
 returns-then-start-gt7 c = start-above-7 _ _ _ _ _ (omega arith)
 
 pub slice_bounds-put-end-in-4 : goal.slice_bounds-put-end-in-4
-slice_bounds-put-end-in-4 c =     let called = c.words-words in
+slice_bounds-put-end-in-4 c = let called = c.words-words in
     omega (arith, length-take 4 called.result, ap length called.ensures)
 
 pub returns-in-8 : goal.returns-in-8
 unfolding gives10
-returns-in-8 c =     
+returns-in-8 c =
     put-words _ _ _ _ _ 8 c.in-8.is refl (omega arith) c.words-words.ensures c.put.ensures
 
 pub returns-in-4 : goal.returns-in-4
 unfolding gives10
-returns-in-4 c =     
+returns-in-4 c =
     put-words _ _ _ _ _ 4 c.in-4.is refl (omega arith) (ap (take 4) c.words-words.ensures) c.put-in-4.ensures
 
 pub returns-in_default : goal.returns-in_default

@@ -8,6 +8,9 @@ use Rattle.lines.proofs.clean.Goals as goal
 pub returns : goal.returns
 unfolding clean_words
 returns c =
-    record { upper_bound = omega arith; put = more
-      (more c.put-word.ensures c.number-records.ensures.put)
-      c.number.ensures.put }
+    record {
+      upper_bound = omega arith;
+      put = more
+          (more c.put-word.ensures c.number-records.ensures.put)
+          c.number.ensures.put;
+    }

@@ -1,6 +1,5 @@
 -- `registers_run::answer_all` is safe and ends: a turn for each whole call, of ten bytes.
 -- Assumes nothing.
-use Prim.Native.Nat.{◌-◌}
 use lib.ListN.{length-take, length-drop}
 use native.Mathlib.Omega.{arith}
 use Rattle.registers_run.proofs.answer_all.Goals as goal

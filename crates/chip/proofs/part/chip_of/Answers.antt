@@ -71,25 +71,25 @@ pub returns : goal.returns
 unfolding chip_of
 returns c =
     λ i. record {
-  header = c.args.h;
-  trcd = (c.plain.ensures ∙ ap (λ (x : Clocks). x.clocks) c.trcd.ensures) i;
-  trp = (c.plain-2.ensures ∙ ap (λ (x : Clocks). x.clocks) c.trp.ensures) i;
-  trc = (c.plain-3.ensures ∙ ap (λ (x : Clocks). x.clocks) c.trc.ensures) i;
-  tras = (c.plain-4.ensures ∙ ap (λ (x : Clocks). x.clocks) c.tras.ensures) i;
-  trrd = (c.plain-5.ensures ∙ ap (λ (x : Clocks). x.clocks) c.trrd.ensures) i;
-  tfaw = (c.plain-6.ensures ∙ ap (λ (x : Clocks). x.clocks) c.tfaw.ensures) i;
-  tcke = (c.plain-7.ensures ∙ ap (λ (x : Clocks). x.clocks) c.tcke.ensures) i;
-  trtp = (c.plain-8.ensures ∙ ap (λ (x : Clocks). x.clocks) c.trtp.ensures) i;
-  twtr = (c.plain-9.ensures ∙ ap (λ (x : Clocks). x.clocks) c.twtr.ensures) i;
-  twr = (c.plain-10.ensures ∙ ap (λ (x : Clocks). x.clocks) c.twr.ensures) i;
-  tmod = (c.plain-11.ensures ∙ ap (λ (x : Clocks). x.clocks) c.tmod.ensures) i;
-  trfc = (c.plain-12.ensures ∙ ap (λ (x : Clocks). x.clocks) c.trfc.ensures) i;
-  txs = (c.plain-13.ensures ∙ ap (λ (x : Clocks). x.clocks) c.txs.ensures) i;
-  zqlong = (c.plain-14.ensures ∙ ap (λ (x : Clocks). x.clocks) c.zqlong.ensures) i;
-  zqshort = (c.plain-15.ensures ∙ ap (λ (x : Clocks). x.clocks) c.zqshort.ensures) i;
-  most = (c.plain-16.ensures ∙ ap (λ (x : Clocks). x.clocks) c.mostras.ensures) i;
-  trefi = (c.plain-17.ensures ∙ ap (λ (x : Clocks). x.clocks) c.trefi.ensures) i;
-  txp = (c.plain-18.ensures ∙ ap (λ (x : Clocks). x.clocks) c.txp.ensures) i;
-  txpdll = (c.plain-19.ensures ∙ ap (λ (x : Clocks). x.clocks) c.txpdll.ensures) i;
-  nine = (c.plain-20.ensures ∙ ap (λ (x : Clocks). x.clocks) c.ninerefi.ensures) i;
-}
+      header = c.args.h;
+      trcd = (c.plain.ensures ∙ ap (λ (x : Clocks). x.clocks) c.trcd.ensures) i;
+      trp = (c.plain-2.ensures ∙ ap (λ (x : Clocks). x.clocks) c.trp.ensures) i;
+      trc = (c.plain-3.ensures ∙ ap (λ (x : Clocks). x.clocks) c.trc.ensures) i;
+      tras = (c.plain-4.ensures ∙ ap (λ (x : Clocks). x.clocks) c.tras.ensures) i;
+      trrd = (c.plain-5.ensures ∙ ap (λ (x : Clocks). x.clocks) c.trrd.ensures) i;
+      tfaw = (c.plain-6.ensures ∙ ap (λ (x : Clocks). x.clocks) c.tfaw.ensures) i;
+      tcke = (c.plain-7.ensures ∙ ap (λ (x : Clocks). x.clocks) c.tcke.ensures) i;
+      trtp = (c.plain-8.ensures ∙ ap (λ (x : Clocks). x.clocks) c.trtp.ensures) i;
+      twtr = (c.plain-9.ensures ∙ ap (λ (x : Clocks). x.clocks) c.twtr.ensures) i;
+      twr = (c.plain-10.ensures ∙ ap (λ (x : Clocks). x.clocks) c.twr.ensures) i;
+      tmod = (c.plain-11.ensures ∙ ap (λ (x : Clocks). x.clocks) c.tmod.ensures) i;
+      trfc = (c.plain-12.ensures ∙ ap (λ (x : Clocks). x.clocks) c.trfc.ensures) i;
+      txs = (c.plain-13.ensures ∙ ap (λ (x : Clocks). x.clocks) c.txs.ensures) i;
+      zqlong = (c.plain-14.ensures ∙ ap (λ (x : Clocks). x.clocks) c.zqlong.ensures) i;
+      zqshort = (c.plain-15.ensures ∙ ap (λ (x : Clocks). x.clocks) c.zqshort.ensures) i;
+      most = (c.plain-16.ensures ∙ ap (λ (x : Clocks). x.clocks) c.mostras.ensures) i;
+      trefi = (c.plain-17.ensures ∙ ap (λ (x : Clocks). x.clocks) c.trefi.ensures) i;
+      txp = (c.plain-18.ensures ∙ ap (λ (x : Clocks). x.clocks) c.txp.ensures) i;
+      txpdll = (c.plain-19.ensures ∙ ap (λ (x : Clocks). x.clocks) c.txpdll.ensures) i;
+      nine = (c.plain-20.ensures ∙ ap (λ (x : Clocks). x.clocks) c.ninerefi.ensures) i;
+    }

@@ -16,7 +16,7 @@ returns-then-t-p-eq0 c = simp (ne_eqb _ _ c.if-p-eq0.false, eq-eqb _ _ c.if-t-p-
 
 pub overflow_add-result : goal.overflow_add-result
 unfolding up
-overflow_add-result c =     let a = c.args in
+overflow_add-result c = let a = c.args in
     omega (arith, simp (ne_eqb _ _ c.if-p-eq0.false, ne_eqb _ _ c.if-t-p-eq0.false) at (up-most a.self.ps a.period.ps))
 
 pub returns : goal.returns

@@ -1,6 +1,5 @@
 -- A record a turn; what remains leads to what the whole section gives.
 -- Assumes nothing.
-use Prim.Native.Nat.{◌-◌}
 use native.Mathlib.Omega.{arith}
 use mathlib.Core.Path.{ap, ◌∙◌}
 use Rattle.wide.specs.Wide.{fields_of}

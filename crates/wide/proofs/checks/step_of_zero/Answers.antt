@@ -1,6 +1,5 @@
 -- A record a turn, up to one of step 0; what remains has one just if the whole section has.
 -- Assumes nothing.
-use Prim.Native.Nat.{◌-◌}
 use native.Mathlib.Omega.{arith}
 use mathlib.Core.Path.{refl, sym, ap, ◌∙◌}
 use Rattle.wide.proofs.Seeing.{zero-hit, zero-pass, zero-end}

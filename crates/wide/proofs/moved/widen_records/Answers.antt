@@ -1,6 +1,5 @@
 -- A record a turn.
 -- Assumes nothing.
-use Prim.Native.Nat.{◌-◌}
 use native.Mathlib.Omega.{arith}
 use Rattle.wide.proofs.Loops.{widen-start, widen-turn, widen-length, widen-end}
 use Rattle.wide.proofs.moved.widen_records.Goals as goal

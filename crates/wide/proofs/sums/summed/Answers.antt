@@ -1,6 +1,5 @@
 -- A record a turn; what remains leads to what the whole section gives.
 -- Assumes nothing.
-use Prim.Native.Nat.{◌-◌}
 use native.Mathlib.Omega.{arith}
 use Rattle.wide.proofs.Stepping.{steps-start, steps-turn, steps-end}
 use Rattle.wide.proofs.sums.summed.Goals as goal
