@@ -17,7 +17,7 @@ use Rattle.edges.specs.Views.{kept_of, kepts_of, shared_of}
 use Rattle.edges.specs.Says.{last_rules}
 use Rattle.rules.specs.Past.{Past}
 use Rattle.rules.proofs.Clean.{Clean}
-use Rattle.rules.proofs.Summary.{kept, acts, rests, shared}
+use Rattle.rules.proofs.Summary.{kept, shared}
 use Rattle.carries.proofs.Summary.{acts_of, banks_of, device_of}
 use Rattle.carries.proofs.Views.{kept-view, kepts-view, acts-view, rests-view, mrs-view, regs-view, written-view}
 use Rattle.carries.proofs.Latest.{read_view, wrote-view}

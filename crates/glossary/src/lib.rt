@@ -1,5 +1,7 @@
 // The glossary of the tally's kinds: the name of each, the levels of CKE and of the pins by which a record is of that kind, and what it
 // means, in one table. The report prints its rows, and they are those of the definition: 01, "Commands and the 25 rules", and 02, Q-1.
+#![tactic(auto)]
+
 mod table;
 
 ghost use Rattle.std.specs.Prelude.{◌≡◌, ◌<◌};

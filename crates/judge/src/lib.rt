@@ -1,4 +1,6 @@
 // The judge: its state, opening, a section, closing. The state is a summary of the records so far and keeps none of them.
+#![tactic(auto)]
+
 mod calls;
 mod ranks;
 

@@ -19,7 +19,6 @@ use Rattle.rules.specs.Rules.{barred, demand, rule1, rule2, rule3, rule5, rule8,
 use Rattle.rules.proofs.Generic.{decide}
 use Rattle.rules.proofs.Events.{never, greatest-is}
 use Rattle.rules.proofs.Starts.{start_none}
-use Rattle.rules.proofs.Sense.{partner-is}
 use Rattle.rules.proofs.Clean.{wants_all}
 use Rattle.means.specs.Partners.{Fourth}
 use Rattle.means.specs.Pairs.{None, speaks_of, may_find, Way-pair, Lacks, code, registers, reset, Closing-kind, own, any, Start-pair, Fourth-pair, Woken-pair}

@@ -18,7 +18,6 @@ use Rattle.rules.specs.Past.{Past, edge, number, is, ◌∈◌, here, there, lat
 use Rattle.rules.specs.Banks.{open_by, closing_by, act_on, closes, is_idle, act_num, start, status}
 use Rattle.answers.specs.Answer.{or_else, lowest}
 use Rattle.rules.specs.Search.{asking, Spacing, row}
-use Rattle.rules.specs.Rules.{fourth}
 use Rattle.rules.proofs.Generic.{decide}
 use Rattle.rules.proofs.Events.{never, number-le}
 use Rattle.rules.proofs.Clean.{lowest-fine}

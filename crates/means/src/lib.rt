@@ -1,1 +1,3 @@
+#![tactic(auto)]
+
 // What the rules' words mean: theory only, in proofs/.

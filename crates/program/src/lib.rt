@@ -1,5 +1,7 @@
 // What the program makes of the bytes that it reads (01, P8): the header's, a section's, those of a block of sections, and the lines
 // that it prints, one a rank.
+#![tactic(auto)]
+
 ghost use Rattle.std.specs.Prelude.{min, ◌≡◌};
 ghost use Rattle.program.specs.Promises.{Begun, Next, Over, Line, SecondLine};
 

@@ -1,4 +1,6 @@
 // One rank of the running judge: the loop over a section's records, and its end.
+#![tactic(auto)]
+
 mod asked;
 mod asking;
 mod banks;

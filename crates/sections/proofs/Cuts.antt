@@ -1,7 +1,7 @@
 -- Every cut of a recording between records is taken section by section, whatever refused sections are offered in between, and leads to
 -- the state that the uncut recording leads to: the judge, of either edition, is a machine that takes sections.
 -- Assumes nothing.
-use Prim.Native.Nat.{ℕ, ◌+◌, ◌/◌}
+use Prim.Native.Nat.{ℕ, ◌/◌}
 use native.Mathlib.Omega.{arith}
 use native.Mathlib.Nat.{zero-div}
 use mathlib.Core.Path.{◌≡◌, sym, ap, ◌∙◌, subst}

@@ -32,7 +32,7 @@ use Rattle.rules.specs.Verdict.{shown_verdict, Apart, answer}
 use Rattle.rules.proofs.Cutting.{number-all, steps, apart-all}
 use Rattle.rules.proofs.Facts.{Sound}
 use Rattle.sections.specs.Recording.{header_bytes, body, past, end_refusal, records_refusal, whole_refusal, whole_verdict}
-use Rattle.sections.specs.Sections.{Opens, refused}
+use Rattle.sections.specs.Sections.{Opens}
 use Rattle.sections.proofs.Openings.{least-period, taken_is, opened-header}
 use Rattle.sections.proofs.Section.{fits, Stands, refused-by, close-is}
 use Rattle.sections.proofs.Sections.{sound-chip, opened as opened-stands, stands-more}

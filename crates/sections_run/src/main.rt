@@ -12,6 +12,8 @@
 // the verdict so far, 4 also one of the 36 waiting times, and then the closing of what was taken. A closing is the verdict's line;
 // for 1, 3 and 4 the verdict, its 20 bytes, the banks, the registers and the refresh debt. Of edition 2 each of these is a line a rank, the first
 // rank's first; a refusal is one.
+#![tactic(auto)]
+
 mod show;
 
 use judge::State;

@@ -1,5 +1,7 @@
 // A rank at rest: before its first record, its ranges, its registers and the verdict so far. Nothing here adds clocks to an edge, so nothing asks
 // ranges of its callers.
+#![tactic(auto)]
+
 mod opening;
 mod ranges;
 mod shown;

@@ -1,5 +1,7 @@
 // How many records of each command a recording has, carried over its sections as the judge's state is: 01, "Commands and the 25
 // rules", first paragraph, and 02, Q-1. A count's place in the tally is the kind that `kind_of` gives. And where a record stands.
+#![tactic(auto)]
+
 mod places;
 mod refused;
 mod walk;

@@ -1,6 +1,5 @@
 -- `program::over` meets its contract. The invariant is the block's stage; the measure is what is left of a full block.
 -- Assumes nothing.
-use Prim.Native.Nat.{◌-◌}
 use native.Mathlib.Omega.{arith}
 use borrow.Author.Rules.{rules}
 use Rattle.program.proofs.Blocks.{stage-start, stage-test, stage-turn, stage-end}

@@ -1,6 +1,6 @@
 -- The invariant: what remains, counted into the tally so far, is the whole section counted into the tally handed in.
 -- Assumes nothing.
-use Rattle.std.proofs.Common.{◌-◌, refl, arith}
+use Rattle.std.proofs.Common.{refl, arith}
 use Rattle.tally.proofs.Folds.{fold_start, fold_end, fold_more}
 use Rattle.tally.proofs.fold.Goals as goal
 

@@ -1,6 +1,6 @@
 -- The counts in turn; what remains is in range just if all are.
 -- Assumes nothing.
-use Rattle.std.proofs.Common.{◌-◌, sym, refl, ◌∙◌, arith, rules}
+use Rattle.std.proofs.Common.{sym, refl, ◌∙◌, arith, rules}
 use Rattle.tally.proofs.Ranging.{range-hit, range-pass, range-end}
 use Rattle.tally.proofs.in_range.Goals as goal
 

@@ -1,7 +1,6 @@
 -- What is left of the section leads where it leads; a part of 8,000 bytes a turn.
 -- Assumes nothing.
 use borrow.Author.Rules.{rules}
-use Prim.Native.Nat.{◌-◌}
 use native.Mathlib.Omega.{arith}
 use mathlib.Core.Bool.{true≢false}
 use mathlib.Core.Path.{sym, ap, ◌∙◌}

@@ -1,9 +1,7 @@
 -- What is left of the section leads where it leads, for both ranks; a part of 8,000 bytes a turn.
 -- Assumes nothing.
 use borrow.Author.Rules.{rules}
-use Prim.Native.Nat.{◌-◌}
 use native.Mathlib.Omega.{arith}
-use mathlib.Core.Bool.{true, false}
 use mathlib.Core.Path.{sym, ap, ◌∙◌}
 use lib.ListN.{take, drop}
 use Rattle.edges.specs.Ends.{taken_of}

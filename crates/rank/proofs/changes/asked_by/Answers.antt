@@ -1,4 +1,3 @@
-
 use Rattle.rank.proofs.changes.asked_by.Goals as goal
 
 pub returns-in-Mrs : goal.returns-in-Mrs

@@ -1,8 +1,6 @@
-
 use Prim.Native.Nat.{ℕ, ◌+◌}
 use mathlib.Core.Path.{refl, ap, ◌∙◌}
 use Rattle.edges.specs.Ways.{held_to}
-use Rattle.rank.proofs.seldom.held_to.Reads as held-to-reads
 use Rattle.rank.proofs.changes.holds_next.Goals as goal
 
 pub returns-in-Mrs : goal.returns-in-Mrs

@@ -1,11 +1,7 @@
-
 use Prim.Native.Nat.{◌+◌}
 use mathlib.Core.Path.{sym, ap, ◌∙◌}
 use Rattle.edges.specs.declared.Floor.{Floor}
 use Rattle.edges.specs.Ways.{rd_floor}
-use Rattle.rank.proofs.changes.resets.Reads as resets-reads
-use Rattle.rank.proofs.seldom.raised.Reads as raised-reads
-use Rattle.rank.proofs.seldom.reads_later.Reads as reads-later-reads
 use Rattle.rank.proofs.changes.mode_floor.Goals as goal
 
 pub returns-then-resets : goal.returns-then-resets

@@ -1,6 +1,6 @@
 -- The sooner of the banks' deadlines, one after the other, of the debt's and of the stay's.
 -- Assumes nothing.
-use Prim.Native.Nat.{ℕ, ◌-◌, ◌≤◌}
+use Prim.Native.Nat.{ℕ, ◌≤◌}
 use native.Mathlib.Omega.{arith}
 use mathlib.Core.Bool.{Bool}
 use mathlib.Core.Logic.{inl, inr}

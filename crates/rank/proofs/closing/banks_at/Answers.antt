@@ -1,17 +1,11 @@
 -- The eight banks in turn.
 -- Assumes nothing.
-use Prim.Native.Nat.{ℕ, ◌-◌}
 use mathlib.Core.Path.{ap, ◌∙◌}
-use Rattle.answers.specs.declared.Shown.{Shown}
 use Rattle.answers.specs.Answer.{shown_of}
-use Rattle.chip.specs.declared.Chip.{Chip}
 use Rattle.running.specs.declared.Kept.{Kept}
 use Rattle.running.specs.Breaks.{status_of}
-use Rattle.edges.specs.declared.Banks.{Banks}
-use Rattle.edges.specs.Views.{kept_of}
 use Rattle.rank.proofs.Filling.{fill_start, fill-turn, fill_end}
 use borrow.Author.Rules.{rules}
-use Rattle.rank.proofs.closing.banks_at.Invariants.{shows}
 use Rattle.rank.proofs.closing.banks_at.Goals as goal
 
 pub loop-i-init : goal.loop-i-init

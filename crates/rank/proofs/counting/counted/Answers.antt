@@ -1,6 +1,5 @@
 -- Each turn counts a record; a step of 0 gives the rank as it was.
 -- Assumes nothing.
-use Prim.Native.Nat.{◌-◌}
 use native.Mathlib.Omega.{arith}
 use Rattle.edges.specs.Step.{stopped_of}
 use Rattle.edges.proofs.Counts.{counts_start, counts_end, counts-edge, counts-count, counts_zero, counts-next}

@@ -1,11 +1,8 @@
 -- The eight banks in turn.
 -- Assumes nothing.
-use Prim.Native.Nat.{ℕ, ◌-◌}
 use native.Mathlib.Omega.{arith}
 use mathlib.Core.Path.{ap, ◌∙◌}
-use Rattle.chip.specs.declared.Chip.{Chip}
 use Rattle.running.specs.Next.{due}
-use Rattle.edges.specs.declared.Banks.{Banks}
 use Rattle.edges.specs.Views.{kept_of}
 use Rattle.edges.specs.Says.{dues_of}
 use Rattle.rank.proofs.Filling.{fill_start, fill-turn, fill_end}

@@ -1,9 +1,5 @@
-
 use mathlib.Core.Path.{sym, ◌∙◌}
 use Rattle.edges.proofs.Stamps.{dev-mrs, dev-reset}
-use Rattle.rank.proofs.changes.resets.Reads as resets-reads
-use Rattle.rank.proofs.seldom.put.Reads as put_reads
-use Rattle.rank.proofs.seldom.stamp.Reads as stamp-reads
 use Rattle.rank.proofs.device.moded.Goals as goal
 
 pub returns-then-resets : goal.returns-then-resets

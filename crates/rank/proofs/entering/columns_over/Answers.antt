@@ -1,6 +1,5 @@
 -- One bank after the other.
 -- Assumes nothing.
-use Prim.Native.Nat.{◌-◌}
 use native.Mathlib.Omega.{arith}
 use mathlib.Core.Bool.{false≢true}
 use Rattle.edges.proofs.Resting.{over_none, over-more}

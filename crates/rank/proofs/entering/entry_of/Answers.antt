@@ -1,4 +1,3 @@
-
 use Rattle.rank.proofs.entering.entry_of.Goals as goal
 
 pub returns : goal.returns

@@ -1,4 +1,3 @@
-
 use Rattle.rank.proofs.entering.read_over.Goals as goal
 
 pub returns : goal.returns

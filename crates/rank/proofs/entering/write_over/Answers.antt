@@ -1,4 +1,3 @@
-
 use Rattle.rank.proofs.entering.write_over.Goals as goal
 
 pub returns : goal.returns

@@ -40,7 +40,8 @@ pass-left-requires c =
 pub returns : goal.returns
 returns c =
     let soon = neither _ _ c.if-r-clear.false in
-    let fine = neither _ _ c.if-i-real.false in record { came = λ _. record {
+    let fine = neither _ _ c.if-i-real.false in record {
+      came = λ _. record {
         next = c.record_at-r.result;
         is = c.record_at-r.ensures;
         command = c.command_of-c.result;
@@ -53,4 +54,6 @@ returns c =
         edge = refl;
         level = refl;
         sets = ap (λ x. eqb x 0) c.rank_of-i.ensures;
-      }; unmoved = λ h. absurd (true≢false h) }
+      };
+      unmoved = λ h. absurd (true≢false h);
+    }

@@ -1,7 +1,7 @@
 -- Each way of the quick loop is a law of edges (proofs/Loop.antt).
 -- Assumes nothing.
 use native.Mathlib.Omega.{arith}
-use Prim.Native.Nat.{◌+◌, ◌-◌, ◌%◌}
+use Prim.Native.Nat.{◌+◌, ◌%◌}
 use mathlib.Core.Path.{refl}
 use Rattle.edges.proofs.Stands.{last-edge, one_more_lem}
 use Rattle.edges.proofs.Loop.{goes, goes-nop, goes-pre, goes-act, goes-column, goes-auto}

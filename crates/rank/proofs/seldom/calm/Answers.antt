@@ -1,6 +1,4 @@
-
 use native.Mathlib.Omega.{arith}
-use Prim.Native.Nat.{◌-◌}
 use mathlib.Core.Bool.{false≢true}
 use Rattle.edges.proofs.Resting.{calm-none, calm_more, calm-all}
 use Rattle.rank.proofs.seldom.calm.Goals as goal

@@ -1,4 +1,3 @@
-
 use Prim.Native.Nat.{◌-◌}
 use Rattle.edges.proofs.Resting.{CalmTo}
 use Rattle.rank.proofs.seldom.calm.Given as goal

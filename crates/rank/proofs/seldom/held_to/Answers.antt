@@ -1,6 +1,4 @@
-
 use mathlib.Core.List.{[], ◌∷◌}
-use Rattle.rank.proofs.numbers.most_of.Reads as most-of-reads
 use Rattle.rank.proofs.seldom.held_to.Goals as goal
 
 pub returns : goal.returns

@@ -1,6 +1,4 @@
-
 use native.Mathlib.Omega.{arith}
-use Prim.Native.Nat.{◌-◌}
 use mathlib.Core.Bool.{false≢true}
 use Rattle.edges.proofs.Resting.{idle-none, idle-more, idle-all}
 use Rattle.rank.proofs.seldom.idle.Goals as goal

@@ -1,4 +1,3 @@
-
 use Prim.Native.Nat.{◌-◌}
 use Rattle.edges.proofs.Resting.{IdleTo}
 use Rattle.rank.proofs.seldom.idle.Given as goal

@@ -1,4 +1,3 @@
-
 use mathlib.Core.Bool.{false≢true}
 use borrow.Author.Tests.{ltb-false}
 use Rattle.laws.proofs.Both.{neither}

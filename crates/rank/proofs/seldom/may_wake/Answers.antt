@@ -1,8 +1,6 @@
-
 use Prim.Native.Nat.{◌≤◌}
 use mathlib.Core.Path.{subst}
 use borrow.Author.Tests.{leb-true}
-use Rattle.kept.proofs.since.Reads as since-reads
 use Rattle.rank.proofs.seldom.may_wake.Goals as goal
 
 pub returns : goal.returns

@@ -1,6 +1,4 @@
-
 use Rattle.laws.specs.Eight.{table}
-use Rattle.rank.proofs.numbers.most_of.Reads as most-of-reads
 use Rattle.rank.proofs.settling.eight.Goals as goal
 
 pub returns : goal.returns

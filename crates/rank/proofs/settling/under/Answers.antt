@@ -1,9 +1,6 @@
 -- The floor under each waiting time.
 -- Assumes nothing.
 use Rattle.edges.specs.Floors.{under}
-use Rattle.rank.proofs.numbers.most_of.Reads as most-of-reads
-use Rattle.rank.proofs.settling.eight.Reads as eight-reads
-use Rattle.rank.proofs.settling.sixteen.Reads as sixteen-reads
 use Rattle.rank.proofs.settling.under.Goals as goal
 
 pub returns : goal.returns

@@ -1,6 +1,5 @@
 -- The lane's turns are laws of edges (proofs/Lane.antt).
 -- Assumes nothing.
-use Prim.Native.Nat.{◌-◌}
 use native.Mathlib.Omega.{arith}
 use mathlib.Core.Bool.{◌&&◌, not}
 use lib.Dec.{eqb, ltb}

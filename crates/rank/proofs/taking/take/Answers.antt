@@ -1,6 +1,6 @@
 -- What lets no sum wrap, one test after the other; then the records.
 -- Assumes nothing.
-use borrow.Author.Tests.{not-true, not-false, ne_eqb, eq-eqb, lt-ltb, le-ltb}
+use borrow.Author.Tests.{ne_eqb, eq-eqb, lt-ltb, le-ltb}
 use mathlib.Core.Path.{sym, ◌∙◌}
 use Rattle.running.proofs.Ranging.{small-tested}
 use Rattle.edges.proofs.Ranging.{ranged}

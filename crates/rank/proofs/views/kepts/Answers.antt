@@ -1,7 +1,5 @@
 -- The eight banks in turn.
 -- Assumes nothing.
-use Prim.Native.Nat.{◌-◌}
-use Rattle.edges.specs.Views.{kept_of}
 use Rattle.rank.proofs.Filling.{fill_start, fill-turn, fill_end}
 use borrow.Author.Rules.{rules}
 use Rattle.rank.proofs.views.kepts.Goals as goal

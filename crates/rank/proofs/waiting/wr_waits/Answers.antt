@@ -1,8 +1,7 @@
 -- The eight banks in turn.
 -- Assumes nothing.
-use Prim.Native.Nat.{◌-◌, max}
+use Prim.Native.Nat.{max}
 use mathlib.Core.Path.{ap, ◌∙◌}
-use Rattle.edges.specs.Asks.{asks_wr}
 use Rattle.rank.proofs.Filling.{fill_start, fill-turn, fill_end}
 use borrow.Author.Rules.{rules}
 use Rattle.rank.proofs.waiting.wr_waits.Goals as goal

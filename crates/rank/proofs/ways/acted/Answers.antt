@@ -1,4 +1,3 @@
-
 use mathlib.Core.Path.{refl}
 use Rattle.rank.proofs.ways.acted.Goals as goal
 

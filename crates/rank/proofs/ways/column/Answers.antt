@@ -1,8 +1,4 @@
-
 use mathlib.Core.Path.{refl}
-use Rattle.rank.proofs.numbers.if_so.Reads as if-so-reads
-use Rattle.rank.proofs.numbers.most_of.Reads as most-of-reads
-use Rattle.rank.proofs.numbers.one_of.Reads as one-of-reads
 use Rattle.rank.proofs.ways.column.Goals as goal
 
 pub returns : goal.returns

@@ -1,6 +1,4 @@
-
 use mathlib.Core.Path.{refl}
-use Rattle.rank.proofs.numbers.most_of.Reads as most-of-reads
 use Rattle.rank.proofs.ways.shut.Goals as goal
 
 pub returns : goal.returns

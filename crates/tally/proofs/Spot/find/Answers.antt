@@ -1,6 +1,6 @@
 -- The records in turn, up to the one of the number: the search in what remains answers what the search in the whole section does.
 -- Assumes nothing.
-use Rattle.std.proofs.Common.{◌-◌, sym, ◌∙◌, arith}
+use Rattle.std.proofs.Common.{sym, ◌∙◌, arith}
 use Rattle.tally.specs.Places.{find_of}
 use Rattle.tally.proofs.Going.{go-start, go-end, find-more, find-hit}
 use Rattle.tally.proofs.Spot.find.Goals as goal

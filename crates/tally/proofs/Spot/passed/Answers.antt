@@ -1,6 +1,6 @@
 -- The records in turn: what remains to be passed leads to where the whole section leads.
 -- Assumes nothing.
-use Rattle.std.proofs.Common.{◌-◌, arith}
+use Rattle.std.proofs.Common.{arith}
 use Rattle.tally.specs.Places.{passed_of}
 use Rattle.tally.proofs.Going.{go-start, go-end, pass-more}
 use Rattle.tally.proofs.Spot.passed.Goals as goal

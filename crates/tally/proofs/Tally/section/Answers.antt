@@ -1,7 +1,6 @@
 -- Checks 17, 5; then the records.
 -- Assumes nothing.
 use Rattle.std.proofs.Common.{sym, ap, ◌∙◌, eq-eqb, ne_eqb}
-use borrow.Author.Tests.{not-true, not-false}
 use Rattle.tally.specs.Tally.{take, section_of}
 use Rattle.tally.proofs.Ranging.{range_at}
 use Rattle.tally.proofs.Tally.section.Goals as goal

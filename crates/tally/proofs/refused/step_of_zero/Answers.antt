@@ -1,6 +1,6 @@
 -- The records in turn, up to the first of step 0.
 -- Assumes nothing.
-use Rattle.std.proofs.Common.{◌-◌, arith}
+use Rattle.std.proofs.Common.{arith}
 use Rattle.tally.proofs.Zero.{look-start, look-end, look_hit, look-more}
 use Rattle.tally.proofs.refused.step_of_zero.Goals as goal
 
