@@ -1,5 +1,7 @@
 // What the logger's C firmware calls, with numbers and byte slices: 0 is success, any other number 01's refusal.
 // include/manilaply.h declares these for C.
+#![tactic(auto)]
+
 mod whole;
 
 ghost use Rattle.firmware.specs.Calls.{Judge, Register, Burst, Widening, Narrowing};

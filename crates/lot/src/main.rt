@@ -3,6 +3,8 @@
 // instead, and how many stand before the edge: in edition 2 as the first rank sees them, with `--second FROM TO EDGE` as the second does.
 // However the records are cut into files, the verdict and the counts are those of the uncut recording (sections/proofs, Sections and Lots).
 // A file that cannot be judged ends it with the reason. A program has no exit status to set.
+#![tactic(auto)]
+
 mod eights;
 mod find;
 mod reading;
@@ -38,11 +40,25 @@ struct Lot {
 fn main(rt: HostRuntime) {
     let end = inputs::count(&rt);
     if inputs::is(&rt, 1, b"--list") {
-        find::list(&rt, number_at(&rt, 2), number_at(&rt, 3), number_at(&rt, 4), false, end);
+        find::list(
+            &rt,
+            number_at(&rt, 2),
+            number_at(&rt, 3),
+            number_at(&rt, 4),
+            false,
+            end,
+        );
         return;
     }
     if inputs::is(&rt, 1, b"--second") {
-        find::list(&rt, number_at(&rt, 2), number_at(&rt, 3), number_at(&rt, 4), true, end);
+        find::list(
+            &rt,
+            number_at(&rt, 2),
+            number_at(&rt, 3),
+            number_at(&rt, 4),
+            true,
+            end,
+        );
         return;
     }
     if end <= 1 {

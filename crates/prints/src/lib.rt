@@ -1,1 +1,3 @@
+#![tactic(auto)]
+
 // What the program prints is the rules' line: theory only, in proofs/.

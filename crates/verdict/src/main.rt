@@ -1,5 +1,7 @@
 // Judges the recording that standard input holds and prints one line a rank (01, P8): the first refusal, or the verdict at the last
 // record's edge. The header is read first, then sections of 6,000 bytes, ten at a time, the last perhaps shorter.
+#![tactic(auto)]
+
 ghost use Rattle.std.specs.Prelude.{◌≡◌, length};
 ghost use Rattle.verdict.specs.Reading.{Opened, Took, Ran, Judged, Told, ToldSecond};
 
@@ -9,6 +11,7 @@ use program::{BLOCK, Run};
 
 // The standard streams, by number.
 const STDIN_FILENO: i32 = 0;
+
 const STDOUT_FILENO: i32 = 1;
 
 // A block's records, at least: of edition 2.

@@ -1,6 +1,5 @@
 -- `verdict::ran` is safe, ends, and its run is over all that was read. The measure is what is left of the limit, and a block more.
 -- Assumes nothing.
-use Prim.Native.Nat.{◌-◌}
 use native.Mathlib.Omega.{arith}
 use borrow.Author.Rules.{rules}
 use Rattle.verdict.proofs.Reading.{reads-start, reads-test, reads-turn, reads_end}
