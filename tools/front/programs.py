@@ -1,5 +1,6 @@
 """The proved programs: found or built, and run."""
 
+import contextlib
 import os
 import shutil
 import subprocess
@@ -55,6 +56,32 @@ def prove(name):
     os.utime(path(name))  # rt leaves a program as it is whose own sources did not change
 
 
+@contextlib.contextmanager
+def named(words):
+    """The words as a program can take them, and the descriptors that it is to be lent: a file whose name is not UTF-8, which no program can
+    name, goes by the number of its descriptor."""
+    told, lent = [], []
+    try:
+        for word in words:
+            if isinstance(word, bytes) and not is_text(word) and os.path.isfile(word):
+                with contextlib.suppress(OSError):
+                    lent.append(os.open(word, os.O_RDONLY | os.O_CLOEXEC))
+                    word = b'/dev/fd/%d' % lent[-1]
+            told.append(word)
+        yield told, lent
+    finally:
+        for descriptor in lent:
+            os.close(descriptor)
+
+
+def is_text(word):
+    try:
+        word.decode()
+    except UnicodeDecodeError:
+        return False
+    return True
+
+
 def command(name, *words):
     return ['sh', str(ROOT / 'tools/machine'), 'run', str(path(name)), *words]
 
@@ -62,7 +89,7 @@ def command(name, *words):
 def answer(name, parts, *words):
     """What the program writes when it is handed the parts, one after the other, on standard input."""
     try:
-        with subprocess.Popen(command(name, *words), stdin=subprocess.PIPE, stdout=subprocess.PIPE) as run:
+        with named(words) as (told, lent), subprocess.Popen(command(name, *told), stdin=subprocess.PIPE, stdout=subprocess.PIPE, pass_fds=lent) as run:
             try:
                 for part in parts:
                     run.stdin.write(part)
@@ -83,7 +110,8 @@ def answer(name, parts, *words):
 def written_by(name, file, *words):
     """Runs the program with its standard output into the file; what it says on standard error."""
     try:
-        ran = subprocess.run(command(name, *words), stdin=subprocess.DEVNULL, stdout=file, stderr=subprocess.PIPE, check=False)
+        with named(words) as (told, lent):
+            ran = subprocess.run(command(name, *told), stdin=subprocess.DEVNULL, stdout=file, stderr=subprocess.PIPE, check=False, pass_fds=lent)
     except OSError as error:
         raise Failed(f'the program could not be run: {error.strerror}') from None
     if ran.returncode != 0:
