@@ -37,7 +37,8 @@ use Rattle.rules.proofs.Closing.{rest-shown, registers_in, registers-in, answer-
 use Rattle.carries.proofs.Summary.{clocks_left, debt_of, banks_of, device_of, summary}
 use Rattle.carries.proofs.Views.{kept-view, regs-view, written-view}
 use Rattle.carries.proofs.Gap.{due-next}
-use Rattle.carries.proofs.Whole.{frozen, carried_by, carried, carried-clean}
+use Rattle.carries.proofs.Whole.{frozen, carried_by, carried}
+use Rattle.carries.proofs.Carrying.{carried-clean}
 
 -- ── What is owed ────────────────────────────────────────────────────────────────────────────
 

@@ -12,5 +12,6 @@ pub mod Broken
 pub mod Gap
 pub mod Says
 pub mod Whole
+pub mod Carrying
 pub mod Closing
 pub mod Waiting

@@ -31,7 +31,8 @@ use Rattle.rules.specs.Past.{edge, recording}
 use Rattle.rules.specs.Verdict.{verdict_so_far, Apart, answer}
 use Rattle.rules.proofs.Facts.{Sound}
 use Rattle.rules.proofs.Cutting.{steps, number-all, recording-append}
-use Rattle.carries.proofs.Whole.{frozen, carried_by, carried, fold-carried, so-far-carried}
+use Rattle.carries.proofs.Whole.{frozen, carried_by, carried}
+use Rattle.carries.proofs.Carrying.{fold-carried, so-far-carried}
 use Rattle.carries.proofs.Closing.{end-carried}
 use Rattle.carries.proofs.Waiting.{waited-carried}
 use Rattle.sections.specs.Sections.{Fits, refused, Stood}

@@ -26,7 +26,8 @@ use Rattle.rules.specs.Past.{edge, recording}
 use Rattle.rules.specs.Verdict.{shown_verdict, Apart, answer}
 use Rattle.rules.proofs.Facts.{Sound}
 use Rattle.rules.proofs.Cutting.{steps, apart-all, recording-append}
-use Rattle.carries.proofs.Whole.{carried, start-carried}
+use Rattle.carries.proofs.Whole.{carried}
+use Rattle.carries.proofs.Carrying.{start-carried}
 use Rattle.sections.specs.Sections.{Opens, Fits, after, refused, run, taken, Judges}
 use Rattle.sections.proofs.Openings.{taken-sound, opened-state}
 use Rattle.sections.proofs.Never.{open-in-range, section-in-range}
