@@ -41,15 +41,25 @@ def built(name):
     prove(name)
 
 
+def tell(crate):
+    """Says that a crate is proved: it was checked, and no line behind that says otherwise."""
+    print(f'judge: {crate} proved', file=sys.stderr, flush=True)
+
+
 def prove(name):
     """Has rt prove and build it, with one line a crate; all that it says only where it fails."""
-    told = []
+    told, checked = [], None
     with subprocess.Popen(['sh', 'tools/machine', 'program', name], cwd=ROOT, stdin=subprocess.DEVNULL, stdout=subprocess.PIPE, stderr=subprocess.STDOUT) as run:
         for line in run.stdout:
             told.append(line)
+            if line.startswith(b'logic=not-proved'):
+                checked = None
+            if checked and line.startswith((b'crate ', b'rt: ', b'linked ')):
+                checked = tell(checked)
             if line.startswith(b'crate '):
-                sys.stderr.write('judge: ' + line.decode(errors='replace').split(':')[0] + ' proved\n')
-                sys.stderr.flush()
+                checked = line.decode(errors='replace').split(':')[0]
+        if checked and run.wait() == 0:
+            tell(checked)
     if run.returncode != 0 or not os.access(path(name), os.X_OK):
         sys.stderr.write(b''.join(told).decode(errors='replace'))
         raise Failed(f'sh tools/machine program {name} failed; what it said is above')

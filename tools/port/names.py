@@ -2,7 +2,7 @@
 
 Words of specs/ and proofs/ that are spelled as `wordAt` become `word_at`, also as a part of a lemma's name (`at-wordAt`). A file of
 specs/ named Contracts becomes Promises, since Rattle makes a module `specs.contracts`. Functions of src/, exported names, strings, inputs and
-outputs keep their names. It stops where two names would fall together. It may be run again: the second time it finds nothing."""
+outputs keep their names. It tells where two names would fall together. It may be run again: the second time it finds nothing."""
 
 import glob
 import os

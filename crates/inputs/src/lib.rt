@@ -1,6 +1,7 @@
 // What a program is given: its arguments' bytes, and the files that they name.
 #![tactic(auto)]
 
+ghost use Rattle.std.specs.Prelude.{◌≡◌, IsNone};
 ghost use Rattle.io.specs.Counts.{IsPrefixLen};
 
 use std::env::{Env, FillError};
@@ -50,7 +51,8 @@ pub fn open(rt: &HostRuntime, i: usize) -> Option<File> {
 
 // Reads until buf is full, the file ends or a read fails, and returns how many bytes it put at the start of buf; of no file none.
 pub fn fill(file: &Option<File>, buf: &mut [u8]) -> usize
-    ensures { IsPrefixLen result buf.new }
+    ensures prefix { IsPrefixLen result buf.new }
+    ensures none { IsNone file.now → (result ≡ 0) × (buf.new ≡ buf.old) }
 {
     match file {
         Some(f) => io::read_full(f.as_raw_fd(), buf),
