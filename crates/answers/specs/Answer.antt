@@ -1,12 +1,13 @@
 -- The first of several breaks, the bytes of a verdict and the fields of a bank: 01, "The recording", below the table of refusals.
 -- Assumes nothing.
-use Rattle.std.specs.Prelude.{ℕ, zero, suc, ◌/◌, ◌%◌, cond, List, [], ◌∷◌, ◌++◌, ltb, length}
+use Rattle.std.specs.Prelude.{ℕ, zero, suc, ◌/◌, ◌%◌, Bool, cond, Option, None, Some, List, [], ◌∷◌, ◌++◌, ltb, length}
 use Rattle.laws.specs.Lent.{Wrote}
 use Rattle.answers.specs.declared.Break.{Break}
 use Rattle.answers.specs.declared.Break.TheVariants.{Fine, Broken}
 use Rattle.answers.specs.declared.Bank.{Bank}
 use Rattle.answers.specs.declared.Bank.TheVariants.{Idle, Open, Closing}
 use Rattle.answers.specs.declared.Shown.{Shown}
+use Rattle.answers.specs.declared.Shown.TheVariants.{Idle as ShownIdle, Open as ShownOpen, Closing as ShownClosing}
 use Rattle.answers.specs.declared.Verdict.{Verdict}
 
 -- the first of two breaks
@@ -46,8 +47,12 @@ Reported v before r after = Wrote (room_for 20 (length before)) (verdict_bytes v
 abbrev pub ReportedBoth : (first second : Verdict) (before : List ℕ) (r : ℕ) (after : List ℕ) → Type 0
 ReportedBoth v w before r after = Wrote (room_for 40 (length before)) (verdict_bytes v ++ verdict_bytes w) before r after
 
--- "A bank is idle, open or closing, with row (A15..A0) and ACT edge unless idle": 0, 1, 2 for the three
+-- "A bank is idle, open or closing, with row (A15..A0) and ACT edge unless idle"
 abbrev pub shown_of : Bank → Shown
-shown_of Idle = record { status = 0; row = 0; act = 0 }
-shown_of (Open at num row) = record { status = 1; row = row; act = at }
-shown_of (Closing at num row) = record { status = 2; row = row; act = at }
+shown_of Idle = ShownIdle
+shown_of (Open at num row) = ShownOpen row at
+shown_of (Closing at num row) = ShownClosing row at
+
+-- a register that is not written has no code
+abbrev pub code_if : (written : Bool) → (code : ℕ) → Option ℕ
+code_if w c = cond w (Some c) None

@@ -26,15 +26,16 @@ pub enum Bank {
     Closing { at: u64, num: u64, row: u64 },
 }
 
-// A bank as it is answered: status 0 idle, 1 open, 2 closing; row and ACT edge are 0 where it is idle.
-#[derive(Clone, Copy)]
-pub struct Shown {
-    pub status: u64,
-    pub row: u64,
-    pub act: u64,
+// A bank as it is answered, with the row and the edge of its ACT unless it is idle.
+#[derive(Clone, Copy, Debug, PartialEq, Eq)]
+pub enum Shown {
+    Idle,
+    Open { row: u64, act: u64 },
+    Closing { row: u64, act: u64 },
 }
 
 // 01's verdict. Clean: outcome, rule, partner, needed and found are 0, number is the number of records, edge the end edge.
+// outcome is a number, as in the 20 bytes that C is handed: `read_back` and `bytes-tell` speak of any that fits there.
 #[derive(Clone, Copy)]
 pub struct Verdict {
     pub outcome: u64,
@@ -46,19 +47,12 @@ pub struct Verdict {
     pub found: u64,
 }
 
-// A mode register: unwritten, or its last code.
-#[derive(Clone, Copy)]
-pub struct Register {
-    pub written: bool,
-    pub code: u16,
-}
-
-// What stands at the end edge. owed is the refresh debt + 8.
+// What stands at the end edge. registers: the last code of each that was written. owed is the refresh debt + 8.
 #[derive(Clone, Copy)]
 pub struct End {
     pub verdict: Verdict,
     pub banks: [Shown; 8],
-    pub registers: [Register; 4],
+    pub registers: [Option<u16>; 4],
     pub owed: u64,
 }
 
@@ -67,21 +61,9 @@ pub fn show(b: Bank) -> Shown
     ensures { Show b result }
 {
     match b {
-        Bank::Idle => Shown {
-            status: 0,
-            row: 0,
-            act: 0,
-        },
-        Bank::Open { at, num: _, row } => Shown {
-            status: 1,
-            row: row,
-            act: at,
-        },
-        Bank::Closing { at, num: _, row } => Shown {
-            status: 2,
-            row: row,
-            act: at,
-        },
+        Bank::Idle => Shown::Idle,
+        Bank::Open { at, num: _, row } => Shown::Open { row, act: at },
+        Bank::Closing { at, num: _, row } => Shown::Closing { row, act: at },
     }
 }
 

@@ -3,13 +3,9 @@
 
 ghost use Rattle.bits.specs.Promises.{Word};
 
-pub fn word(b0: u8, b1: u8, b2: u8, b3: u8, b4: u8, b5: u8) -> u64
-    ensures { Word b0 b1 b2 b3 b4 b5 result }
+pub fn word(six: [u8; 6]) -> u64
+    ensures { Word six result }
 {
-    b0 as u64 * 1099511627776
-        + b1 as u64 * 4294967296
-        + b2 as u64 * 16777216
-        + b3 as u64 * 65536
-        + b4 as u64 * 256
-        + b5 as u64
+    let [b0, b1, b2, b3, b4, b5] = six;
+    u64::from_be_bytes([0, 0, b0, b1, b2, b3, b4, b5])
 }

@@ -3,35 +3,44 @@
 #![tactic(auto)]
 
 ghost use Rattle.std.specs.Prelude.{◌≡◌, ◌+◌, ◌<◌};
+ghost use Rattle.refusals.specs.Refusals.{number_in};
 ghost use Rattle.bursts.specs.Burst.{sequential, interleave, word_of, words_from, Ordered};
 ghost use Rattle.bursts.specs.Parts.{write_start, Put};
 
-// Writes the words of a burst to the start of out, one byte a word, and returns 0. Type 0 is
-// sequential and direction 0 a read; any other number is the other. A refusal is returned as its
-// number, 10 before 9, and leaves out as it was.
-pub fn order(length: u32, start: u32, kind: u32, direction: u32, out: &mut [u8]) -> u32
-    ensures { Ordered length start kind direction out.old result out.new }
+use refusals::Refusal;
+
+// Writes the words of a burst to the start of out, one byte a word. Type 0 is sequential and direction
+// 0 a read; any other number is the other. A refusal, 10 before 9, leaves out as it was.
+// The type and the direction are numbers, as C hands them over: any u32 is one.
+pub fn order(
+    length: u32,
+    start: u32,
+    kind: u32,
+    direction: u32,
+    out: &mut [u8],
+) -> Result<(), Refusal>
+    ensures { Ordered length start kind direction out.old (number_in result) out.new }
 {
     if start > 7 {
-        return 10;
+        return Err(Refusal::Burst);
     }
     let words = words(length, start as u8, kind, direction);
     match length {
         8 => put(&words, out),
         4 => put(&words[..4], out),
-        _ => 10,
+        _ => Err(Refusal::Burst),
     }
 }
 
-// Puts words at the start of out and returns 0, or refuses by 9 where out is too short for them.
-fn put(words: &[u8], out: &mut [u8]) -> u32
-    ensures { Put words.now out.old result out.new }
+// Puts words at the start of out, or refuses by 9 where out is too short for them.
+fn put(words: &[u8], out: &mut [u8]) -> Result<(), Refusal>
+    ensures { Put words.now out.old (number_in result) out.new }
 {
     if out.len() < words.len() {
-        return 9;
+        return Err(Refusal::Room);
     }
     out[..words.len()].copy_from_slice(words);
-    0
+    Ok(())
 }
 
 // Words 0 to 7; a burst of four is the first four of them.

@@ -3,7 +3,7 @@
 use Rattle.std.specs.Prelude.{ℕ, ◌≡◌, Bool, false, List, [], ◌∷◌}
 use Prim.Native.String.{String}
 use Rattle.header.specs.declared.Header.{Header}
-use Rattle.header.specs.declared.Parsed.TheVariants.{Taken}
+use Rattle.std.specs.Prelude.{Ok}
 use Rattle.header.specs.Bytes.{edition_for, parsed_of}
 use Rattle.header.specs.Counts.{t_rcd, t_rp, t_rc, t_ras, t_rrd, t_faw, t_rtp, t_wr, t_rfc, t_mod, t_xs, most_ras, t_refi}
 use Rattle.registers.specs.Allowed.{allowed}
@@ -47,7 +47,7 @@ Holds (limit h n) = (most_ras h).clocks ≡ n
 Holds (burst length start kind direction words) = order_of length start kind direction ≡ words
 Holds (reads h number code fields) = answer_of (decoded_of h number code) ≡ record { number = 0; bytes = fields }
 Holds (permits h number code answer) = allowed h number code ≡ answer
-Holds (opens bytes h) = parsed_of (edition_for bytes) bytes ≡ Taken h
+Holds (opens bytes h) = parsed_of (edition_for bytes) bytes ≡ Ok h
 Holds (judged bs end verdict) = (whole_refusal bs end ≡ 0) × (whole_verdict false bs end ≡ verdict)
 Holds (printed bs line) = program_line bs ≡ text line
 Holds (widens bs moved) = widen bs ≡ moved

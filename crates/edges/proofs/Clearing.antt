@@ -3,57 +3,37 @@
 use Prim.Native.Nat.{ℕ, ◌+◌, ◌≤◌, ◌<◌, min}
 use native.Mathlib.Omega.{arith}
 use mathlib.Core.Bool.{Bool, true, false, cond, ◌||◌}
-use mathlib.Core.List.{List}
 use mathlib.Core.Logic.{inl, inr, ⊎_elim}
 use mathlib.Core.Path.{◌≡◌, refl, subst}
 use lib.Dec.{ltb}
-use lib.ListN.{get_or}
 use borrow.Author.Tests.{ltb-true, ltb-false}
 use Rattle.records.specs.declared.Command.{Command}
 use Rattle.records.specs.declared.Command.TheVariants.{Ref, Pre, Srx, Pde}
 use Rattle.records.specs.Command.{is_a}
+use Rattle.edges.specs.declared.Banks.{Banks}
 use Rattle.edges.specs.declared.Debt.{Debt}
-use Rattle.edges.specs.Clearing.{due_by, Off, Clears, Owing, ClearTo, NoneAbove, owing_by, clear_next}
+use Rattle.edges.specs.Clearing.{Off, BankClears, Clears, Owing, ClearTo, owing_by, clear_next}
 
 pub off-sooner : (lo x x' d : ℕ) → x' ≤ x → Off lo x d → Off lo x' d
 off-sooner lo x x' d l h = ⊎_elim inl (λ u. inr (omega (arith, u, l))) h
 
-module _ (most : ℕ) (actat actno shutat shutno : List ℕ) (lo : ℕ) where
-  pub clear-start : ClearTo most actat actno shutat shutno lo (lo + most + 1) 0
-  clear-start = record { seen = λ i l. absurd (omega (arith, l)); near = omega arith; within = omega arith }
+module _ (most : ℕ) (B : Banks) (lo : ℕ) where
+  pub clear-start : ClearTo most B lo (lo + most + 1) 0
+  clear-start = record { seen = λ i l. absurd (omega (arith, l)); near = omega arith }
 
-  module _ (x b : ℕ) (h : ClearTo most actat actno shutat shutno lo x b) where
-    pub clear_next_lem : (x' : ℕ) → b < 8 → Off lo x' (due_by most (get_or actat b 0) (get_or actno b 0) (get_or shutat b 0) (get_or shutno b 0)) → x' ≤ x
-        → ClearTo most actat actno shutat shutno lo x' (b + 1)
-    clear_next_lem x' less off below = record {
-      seen = λ i l. go i l (ltb i b) refl;
-      near = omega (arith, h.near, below);
-      within = omega (arith, less);
-    }
+  module _ (x b : ℕ) (h : ClearTo most B lo x b) where
+    pub clear_next_lem : (x' : ℕ) → BankClears most B lo x' b → x' ≤ x → ClearTo most B lo x' (b + 1)
+    clear_next_lem x' off below = record { seen = λ i l. go i l (ltb i b) refl; near = omega (arith, h.near, below) }
       where
-        go : (i : ℕ) → i < b + 1 → (z : Bool) → ltb i b ≡ z → Off lo x' (due_by most (get_or actat i 0) (get_or actno i 0) (get_or shutat i 0) (get_or shutno i 0))
+        go : (i : ℕ) → i < b + 1 → (z : Bool) → ltb i b ≡ z → BankClears most B lo x' i
         go i l true e = off-sooner lo x x' _ below (h.seen i (ltb-true i b e))
-        go i l false e =
-            subst (λ k. Off lo x' (due_by most (get_or actat k 0) (get_or actno k 0) (get_or shutat k 0) (get_or shutno k 0))) same off
+        go i l false e = subst (λ k. BankClears most B lo x' k) same off
           where
             same : b ≡ i
             same = omega (arith, l, ltb-false i b e)
 
-    pub clear-end : (x' : ℕ) → 8 ≤ b → x' ≤ x → Clears most actat actno shutat shutno lo x'
+    pub clear-end : (x' : ℕ) → 8 ≤ b → x' ≤ x → Clears most B lo x'
     clear-end x' all below i l = off-sooner lo x x' _ below (h.seen i (omega (arith, l, all)))
-
-pub none-start : (nums : List ℕ) (n : ℕ) → NoneAbove nums n 0
-none-start nums n = record { seen = λ i l. absurd (omega (arith, l)); within = omega arith }
-
-pub none-next : (nums : List ℕ) (n b : ℕ) → NoneAbove nums n b → b < 8 → get_or nums b 0 ≤ n → NoneAbove nums n (b + 1)
-none-next nums n b h less here = record { seen = λ i l. go i l (ltb i b) refl; within = omega (arith, less) }
-  where
-    go : (i : ℕ) → i < b + 1 → (z : Bool) → ltb i b ≡ z → get_or nums i 0 ≤ n
-    go i l true e = h.seen i (ltb-true i b e)
-    go i l false e = subst (λ k. get_or nums k 0 ≤ n) same here
-      where
-        same : b ≡ i
-        same = omega (arith, l, ltb-false i b e)
 
 -- ── After a seldom command ──────────────────────────────────────────────────────────────────
 

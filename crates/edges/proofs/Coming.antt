@@ -2,7 +2,7 @@
 -- Assumes nothing.
 use Prim.Native.Nat.{ℕ, zero, suc, ◌+◌, ◌≤◌, ◌<◌, max}
 use native.Mathlib.Omega.{arith}
-use mathlib.Core.Bool.{Bool, true, cond}
+use mathlib.Core.Bool.{Bool, true}
 use mathlib.Core.List.{List}
 use mathlib.Core.Logic.{inl, inr, ⊎_elim}
 use mathlib.Core.Path.{◌≡◌, refl, ◌∙◌}
@@ -13,7 +13,7 @@ use Rattle.laws.proofs.Eight.{get_or-table}
 use Rattle.records.specs.declared.Record.{Record}
 use Rattle.records.specs.declared.Command.{Command}
 use Rattle.records.specs.declared.Command.TheVariants.{Mrs, Ref, Pre, Act, Wr, Rd, Zq, Nop, Des, Sre, Srx, Low, Bad, Pde, Pdx}
-use Rattle.records.specs.Command.{is_a, a10}
+use Rattle.records.specs.Command.{a10}
 use Rattle.chip.specs.declared.Chip.{Chip}
 use Rattle.edges.specs.declared.Waits.{Waits}
 use Rattle.edges.specs.declared.Floor.{Floor}
@@ -23,10 +23,10 @@ use Rattle.edges.specs.Next.{slow_now, device_next, debt_next}
 use Rattle.edges.specs.Says.{command_in}
 use Rattle.edges.specs.Step.{moved_of, step_of}
 use Rattle.edges.specs.Floors.{under, settled}
-use Rattle.edges.specs.Ways.{floor_next, holds_next}
+use Rattle.edges.specs.Ways.{floor_next}
 use Rattle.edges.specs.Seldom.{Rested, MayCome}
 use Rattle.edges.specs.Running.{Track, Rest, held_by, rank_of}
-use Rattle.edges.specs.Lane.{rest_by, Clear}
+use Rattle.edges.specs.Lane.{Clear, rest_after, track_after}
 use Rattle.edges.proofs.Easy.{NoneDue, NotOwed, NotLong, AllFine, says_none}
 use Rattle.edges.proofs.Fine.{Idling, all-fine, ref-fine, zq-fine, mrs-fine, sre-fine, srx-fine, nop-fine, des-fine, low-fine, pde-fine, pdx-fine}
 use Rattle.edges.proofs.Entering.{entered-fine}
@@ -61,33 +61,6 @@ module _ (f : Floor) (W : Waits) (r : Record) (e : ℕ) where
   unfolding under
   sre-over h l m = omega arith
 
--- the track after a seldom command
-abbrev pub track_after : Track → (e n : ℕ) (shutat shutno : List ℕ) → Floor → Track
-track_after t e n sa sn f =
-    record {
-      edge = e;
-      count = n;
-      banks =
-          record {
-            actat = t.banks.actat;
-            actno = t.banks.actno;
-            actneed = t.banks.actneed;
-            row = t.banks.row;
-            colat = t.banks.colat;
-            colno = t.banks.colno;
-            colpre = t.banks.colpre;
-            colturn = t.banks.colturn;
-            colout = t.banks.colout;
-            shutat = sa;
-            shutno = sn;
-          };
-      act = t.act;
-      col = t.col;
-      pre = t.pre;
-      acts = t.acts;
-      floor = f;
-    }
-
 module _ (C : Chip) (d : Rest) (t : Track) (r : Record) where
   abbrev e : ℕ
   e = t.edge + r.step
@@ -104,13 +77,11 @@ module _ (C : Chip) (d : Rest) (t : Track) (r : Record) where
   abbrev slow : Bool
   slow = slow_now t.banks d.device
 
-  -- what it leaves behind; a PRE of all banks shuts them
   abbrev pub next_rest : Command → Rest
-  next_rest c = rest_by r.cke (debt_next C c e d.debt) (holds_next C c r e d.holds) (device_next C c r e n slow d.device) d.first
+  next_rest c = rest_after C c r e n slow d
 
   abbrev pub next_track : Command → Track
-  next_track c =
-      track_after t e n (cond (is_a Pre c) (table (λ _. e)) t.banks.shutat) (cond (is_a Pre c) (table (λ _. n)) t.banks.shutno) (floor_next C c r slow e f)
+  next_track c = track_after C c r e n slow t
 
   module _ (clear : ℕ) (free : Clear C clear d t) (clean : d.first.outcome ≡ 0) (before : e < clear) (size : Sized s.waits) where
     none-due : NoneDue C t.banks t.edge e
@@ -127,13 +98,11 @@ module _ (C : Chip) (d : Rest) (t : Track) (r : Record) where
     unfolding step_of settled
     step-moves fine = rw (eq-eqb d.first.outcome 0 clean, says_none C (rank_of d t) r none-due not-owed not-long fine)
 
-    idling : {a : ℕ} {b : ℕ} → Rested t.banks.actno t.banks.shutat t.banks.shutno a b e → (x : ℕ) → x < 8 → Idling C t.banks x e
+    idling : {a : ℕ} {b : ℕ} → Rested t.banks a b e → (x : ℕ) → x < 8 → Idling C t.banks x e
     idling q x l = (q.all.closed x l, q.all.over x l)
 
     abbrev May : Command → Type 0
-    May c =
-        MayCome C.header C.tmod c r e f t.banks.actno t.banks.colat t.banks.colno t.banks.colpre t.banks.shutat t.banks.shutno t.pre
-        d.holds d.device.at d.device.no d.device.need d.device.codes
+    May c = MayCome C c r e f t.banks t.pre d.holds d.device
 
     fine-as : (c : Command) → command_in s r ≡ c → May c → AllFine C (rank_of d t) r e
     unfolding settled

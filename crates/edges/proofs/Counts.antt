@@ -13,7 +13,7 @@ use Rattle.chip.specs.declared.Chip.{Chip}
 use Rattle.running.specs.Ranges.{limit, last_edge}
 use Rattle.records.proofs.Records.{at-step, at-end, step-at}
 use Rattle.edges.specs.declared.Rank.{Rank}
-use Rattle.edges.specs.declared.Folded.{Folded}
+use Rattle.edges.specs.Folded.{Folded}
 use Rattle.edges.specs.Step.{stopped_of, step_of}
 use Rattle.edges.specs.Folding.{folded_from, Counting, Counts}
 use Rattle.edges.proofs.Folding.{along-none, along-also, along_one}

@@ -13,7 +13,7 @@ use Rattle.chip.specs.declared.Chip.{Chip}
 use Rattle.running.specs.declared.Mark.{Mark}
 use Rattle.running.specs.declared.Kept.{Kept}
 use Rattle.running.specs.Marks.{empty, needing, spaced}
-use Rattle.running.specs.Down.{later_of, latest_of, of_read, of_auto, entry_read, entry_write, check26, rule26}
+use Rattle.running.specs.Down.{later_of, latest_of, entry_read, entry_write, check26, rule26}
 use Rattle.edges.specs.declared.Banks.{Banks}
 use Rattle.edges.specs.declared.Acts.{Acts}
 use Rattle.edges.specs.declared.Device.{Device}
@@ -31,7 +31,7 @@ unfolding spaced
 check-fine e m l = rw (le-ltb (e - m.at) m.need l)
 
 module _ (C : Chip) (B : Banks) (A : Acts) (D : Device) (e : ℕ)
-    (h : Entered C.tmod (of_read (regs_of D)) (of_auto (regs_of D)) e B.colat B.colno B.colpre B.shutno D.at D.no) where
+    (h : Entered C.tmod e B D) where
   wrote-fine : (b : ℕ) → b < 8 → check26 e (entry_write (regs_of D) (device_mark D MRS) (get_or (kepts_of C B) b empty)) ≡ Fine
   unfolding kept_of needing
   wrote-fine b l =

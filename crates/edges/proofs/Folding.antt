@@ -17,11 +17,11 @@ use Rattle.chip.specs.declared.Chip.{Chip}
 use Rattle.running.specs.Ranges.{limit, last_edge, Small}
 use Rattle.records.proofs.Records.{at-step, at-end}
 use Rattle.edges.specs.declared.Rank.{Rank}
-use Rattle.edges.specs.declared.Folded.{Folded}
+use Rattle.edges.specs.Folded.{Folded}
 use Rattle.edges.specs.Step.{step_of, fold_of}
 use Rattle.edges.specs.Floors.{no_floor, under, settled}
-use Rattle.edges.specs.Running.{Track, rank_of, Standing, Along}
-use Rattle.edges.specs.Lane.{track_in, rest_in}
+use Rattle.edges.specs.Running.{Track, rank_of, Standing, Along, rest_in}
+use Rattle.edges.specs.Lane.{track_in}
 use Rattle.edges.specs.Folding.{folded_from}
 
 -- ── No floor ────────────────────────────────────────────────────────────────────────────────

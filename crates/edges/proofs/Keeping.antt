@@ -2,16 +2,13 @@
 -- Assumes nothing.
 use Prim.Native.Nat.{ℕ, ◌+◌, ◌-◌, ◌%◌, min}
 use native.Mathlib.Omega.{arith}
-use mathlib.Core.Bool.{Bool, true, false, cond, not, ◌&&◌, ◌||◌, true≢false}
+use mathlib.Core.Bool.{Bool, true, false, cond, ◌&&◌, ◌||◌, true≢false}
 use mathlib.Core.List.{List}
 use mathlib.Core.Logic.{inl, inr, ⊎_elim}
 use mathlib.Core.Path.{◌≡◌, refl, sym, ap, ◌∙◌}
-use lib.Dec.{eqb, leb, ltb}
+use lib.Dec.{eqb, leb}
 use lib.ListN.{get_or, length}
-use Rattle.laws.specs.Any.{any_of}
-use Rattle.codes.specs.Codes.{set as set1}
 use Rattle.laws.specs.Eight.{table}
-use Rattle.header.specs.declared.Header.{Header}
 use Rattle.records.specs.declared.Record.{Record}
 use Rattle.records.specs.declared.Command.{Command}
 use Rattle.records.specs.declared.Command.TheVariants.{Mrs, Ref, Pre, Act, Wr, Rd, Zq, Nop, Des, Sre, Srx, Low, Bad, Pde, Pdx}
@@ -24,7 +21,7 @@ use Rattle.edges.specs.declared.Debt.{Debt}
 use Rattle.edges.specs.declared.Floor.{Floor}
 use Rattle.edges.specs.Views.{regs_of, CKE, PDX, SLOW}
 use Rattle.edges.specs.Asks.{need18}
-use Rattle.edges.specs.Next.{set_if, counting, slow_now, stamped, debt_next, device_next, none_open}
+use Rattle.edges.specs.Next.{set_if, counting, stamped, debt_next, device_next}
 use Rattle.edges.specs.Clearing.{Owing, Staying, owing_by, clear_next}
 use Rattle.edges.specs.Ways.{floor_next}
 use Rattle.edges.specs.Seldom.{AllIdle, MayCome}
@@ -85,29 +82,24 @@ slow-floor C Bad r e x y f h = refl
 slow-floor C Pde r e x y f h = refl
 slow-floor C Pdx r e x y f h = ap (λ (v : Bool). floor_next C Pdx r v e f) (h refl)
 
-pub slow-by : (B : Banks) (D : Device)
-    → slow_now B D ≡ get_or D.written 0 false && (not (set1 (get_or D.codes 0 0) 12) && not (any_of (λ b. ltb (get_or B.shutno b 0) (get_or B.actno b 0)) 8))
-unfolding slow_now none_open
-slow-by B D = refl
-
 -- a command that may come is no bad one
-pub may-good : (h : Header) (t : ℕ) (c : Command) (r : Record) (e : ℕ) (f : Floor) (an ca cn cp sa sn p hs a m k g : List ℕ)
-    → MayCome h t c r e f an ca cn cp sa sn p hs a m k g → is_a Bad c ≡ false
-may-good h t Mrs r e f an ca cn cp sa sn p hs a m k g w = refl
-may-good h t Ref r e f an ca cn cp sa sn p hs a m k g w = refl
-may-good h t Pre r e f an ca cn cp sa sn p hs a m k g w = refl
-may-good h t Act r e f an ca cn cp sa sn p hs a m k g w = refl
-may-good h t Wr r e f an ca cn cp sa sn p hs a m k g w = refl
-may-good h t Rd r e f an ca cn cp sa sn p hs a m k g w = refl
-may-good h t Zq r e f an ca cn cp sa sn p hs a m k g w = refl
-may-good h t Nop r e f an ca cn cp sa sn p hs a m k g w = refl
-may-good h t Des r e f an ca cn cp sa sn p hs a m k g w = refl
-may-good h t Sre r e f an ca cn cp sa sn p hs a m k g w = refl
-may-good h t Srx r e f an ca cn cp sa sn p hs a m k g w = refl
-may-good h t Low r e f an ca cn cp sa sn p hs a m k g w = refl
-may-good h t Pde r e f an ca cn cp sa sn p hs a m k g w = refl
-may-good h t Pdx r e f an ca cn cp sa sn p hs a m k g w = refl
-may-good h t Bad r e f an ca cn cp sa sn p hs a m k g w = absurd w
+pub may-good : (C : Chip) (c : Command) (r : Record) (e : ℕ) (f : Floor) (B : Banks) (p h : List ℕ) (D : Device)
+    → MayCome C c r e f B p h D → is_a Bad c ≡ false
+may-good C Mrs r e f B p h D w = refl
+may-good C Ref r e f B p h D w = refl
+may-good C Pre r e f B p h D w = refl
+may-good C Act r e f B p h D w = refl
+may-good C Wr r e f B p h D w = refl
+may-good C Rd r e f B p h D w = refl
+may-good C Zq r e f B p h D w = refl
+may-good C Nop r e f B p h D w = refl
+may-good C Des r e f B p h D w = refl
+may-good C Sre r e f B p h D w = refl
+may-good C Srx r e f B p h D w = refl
+may-good C Low r e f B p h D w = refl
+may-good C Pde r e f B p h D w = refl
+may-good C Pdx r e f B p h D w = refl
+may-good C Bad r e f B p h D w = absurd w
 
 -- no stay is too long before the next edge
 pub kept-stays :
@@ -141,20 +133,20 @@ kept-stays C c r e n slow l x D x' D' at clear names good debt device turns st =
         rw (q, same, whole) (inr (⊎_elim (λ w. absurd (true≢false (sym w ∙ j))) (λ w. w) st))
 
 -- behind a REF all banks are idle
-pub ref-idle : (h : Header) (t : ℕ) (c : Command) (r : Record) (e : ℕ) (f : Floor) (an ca cn cp sa sn p hs a m k g : List ℕ)
-    → MayCome h t c r e f an ca cn cp sa sn p hs a m k g → is_a Ref c ≡ true → (is_a Pre c ≡ false) × AllIdle an sa sn e
-ref-idle h t Ref r e f an ca cn cp sa sn p hs a m k g w z = (refl, w.all)
-ref-idle h t Mrs r e f an ca cn cp sa sn p hs a m k g w z = absurd (true≢false (sym z))
-ref-idle h t Pre r e f an ca cn cp sa sn p hs a m k g w z = absurd (true≢false (sym z))
-ref-idle h t Act r e f an ca cn cp sa sn p hs a m k g w z = absurd (true≢false (sym z))
-ref-idle h t Wr r e f an ca cn cp sa sn p hs a m k g w z = absurd (true≢false (sym z))
-ref-idle h t Rd r e f an ca cn cp sa sn p hs a m k g w z = absurd (true≢false (sym z))
-ref-idle h t Zq r e f an ca cn cp sa sn p hs a m k g w z = absurd (true≢false (sym z))
-ref-idle h t Nop r e f an ca cn cp sa sn p hs a m k g w z = absurd (true≢false (sym z))
-ref-idle h t Des r e f an ca cn cp sa sn p hs a m k g w z = absurd (true≢false (sym z))
-ref-idle h t Sre r e f an ca cn cp sa sn p hs a m k g w z = absurd (true≢false (sym z))
-ref-idle h t Srx r e f an ca cn cp sa sn p hs a m k g w z = absurd (true≢false (sym z))
-ref-idle h t Low r e f an ca cn cp sa sn p hs a m k g w z = absurd (true≢false (sym z))
-ref-idle h t Bad r e f an ca cn cp sa sn p hs a m k g w z = absurd (true≢false (sym z))
-ref-idle h t Pde r e f an ca cn cp sa sn p hs a m k g w z = absurd (true≢false (sym z))
-ref-idle h t Pdx r e f an ca cn cp sa sn p hs a m k g w z = absurd (true≢false (sym z))
+pub ref-idle : (C : Chip) (c : Command) (r : Record) (e : ℕ) (f : Floor) (B : Banks) (p h : List ℕ) (D : Device)
+    → MayCome C c r e f B p h D → is_a Ref c ≡ true → (is_a Pre c ≡ false) × AllIdle B e
+ref-idle C Ref r e f B p h D w z = (refl, w.all)
+ref-idle C Mrs r e f B p h D w z = absurd (true≢false (sym z))
+ref-idle C Pre r e f B p h D w z = absurd (true≢false (sym z))
+ref-idle C Act r e f B p h D w z = absurd (true≢false (sym z))
+ref-idle C Wr r e f B p h D w z = absurd (true≢false (sym z))
+ref-idle C Rd r e f B p h D w z = absurd (true≢false (sym z))
+ref-idle C Zq r e f B p h D w z = absurd (true≢false (sym z))
+ref-idle C Nop r e f B p h D w z = absurd (true≢false (sym z))
+ref-idle C Des r e f B p h D w z = absurd (true≢false (sym z))
+ref-idle C Sre r e f B p h D w z = absurd (true≢false (sym z))
+ref-idle C Srx r e f B p h D w z = absurd (true≢false (sym z))
+ref-idle C Low r e f B p h D w z = absurd (true≢false (sym z))
+ref-idle C Bad r e f B p h D w z = absurd (true≢false (sym z))
+ref-idle C Pde r e f B p h D w z = absurd (true≢false (sym z))
+ref-idle C Pdx r e f B p h D w z = absurd (true≢false (sym z))

@@ -12,7 +12,6 @@ pub mod Ranging
 pub mod Loop
 pub mod Seldom
 pub mod Changing
-pub mod Resting
 pub mod Folding
 pub mod Turns
 pub mod Latest
@@ -21,7 +20,6 @@ pub mod Coming
 pub mod Keeping
 pub mod Lane
 pub mod Reaching
-pub mod Stamps
 pub mod Counts
 pub mod Stopped
 pub mod Clearing

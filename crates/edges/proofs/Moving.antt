@@ -5,7 +5,7 @@ use native.Mathlib.Nat.{zero-max}
 use mathlib.Core.Bool.{Bool, true, false, cond, not}
 use mathlib.Core.Path.{◌≡◌, refl, sym, ap, ◌∙◌}
 use lib.Dec.{eqb}
-use lib.ListN.{get_or, set}
+use lib.ListN.{get_or}
 use Rattle.records.specs.declared.Record.{Record}
 use Rattle.records.specs.declared.Command.{Command}
 use Rattle.records.specs.declared.Command.TheVariants.{Pre, Act, Wr, Rd, Nop, Des, Low}
@@ -26,7 +26,7 @@ use Rattle.edges.specs.Next.{start_of, banks_next, acts_next, slow_now, device_n
 use Rattle.edges.specs.Says.{command_in}
 use Rattle.edges.specs.Step.{moved_of, regs_in}
 use Rattle.edges.specs.Floors.{settled}
-use Rattle.edges.specs.Ways.{raised_at, shut_floor, column_floor, col_pre, col_turn, col_out, col_start, four_at, act_floor}
+use Rattle.edges.specs.Ways.{shut_floor, column_floor, col_start, four_at, act_floor, shut_banks, shut_waits, act_banks, act_waits, act_acts, col_banks, col_waits}
 use Rattle.edges.proofs.Raising.{Raises, waits-under}
 use Rattle.edges.proofs.Ways.{Sized, nop-raises, des-raises, low-raises, act-raises, rd-raises, wr-raises, rd-auto-raises, wr-auto-raises, pre-raises}
 
@@ -103,104 +103,59 @@ module _ (C : Chip) (s : Rank) (f : Floor) (r : Record) where
     low-moves h = moved_as Low f B W s.acts h refl refl (low-raises C r e g (start Low) four slow f W size) refl refl
 
     -- a precharge of the record's bank that starts at the edge x
-    abbrev pub shut_banks : Banks → (x : ℕ) → Banks
-    shut_banks K x =
-        record {
-          actat = K.actat;
-          actno = K.actno;
-          actneed = K.actneed;
-          row = K.row;
-          colat = K.colat;
-          colno = K.colno;
-          colpre = K.colpre;
-          colturn = K.colturn;
-          colout = K.colout;
-          shutat = set K.shutat own x;
-          shutno = set K.shutno own n;
-        }
+    abbrev pub shut_by : Banks → (x : ℕ) → Banks
+    shut_by K x = shut_banks K own x n
 
-    abbrev pub shut_waits : Waits → (x : ℕ) → Waits
-    shut_waits X x = record { act = raised_at X.act own x; col = X.col; pre = X.pre; holds = X.holds }
+    abbrev pub shut_waits_by : Waits → (x : ℕ) → Waits
+    shut_waits_by X x = shut_waits X own x
 
     pub pre-moves : command_in s r ≡ Pre → a10 r ≡ false
-        → moved_of C (settled f s) r ≡ settled (shut_floor f (e + C.trp)) (after (shut_banks B e) (shut_waits W (e + C.trp)) s.acts)
+        → moved_of C (settled f s) r ≡ settled (shut_floor f (e + C.trp)) (after (shut_by B e) (shut_waits_by W (e + C.trp)) s.acts)
     unfolding debt_next banks_next acts_next device_next start_now
-    pre-moves h z = moved_as Pre _ (shut_banks B e) _ s.acts h refl (rw z) (pre-raises C r e g (start Pre) four slow f W size z) refl refl
+    pre-moves h z = moved_as Pre _ (shut_by B e) _ s.acts h refl (rw z) (pre-raises C r e g (start Pre) four slow f W size z) refl refl
 
     module _ (w : Asks) (asked : Asked C (regs_in s) w) where
-      abbrev pub act_banks : Banks
-      act_banks =
-          record {
-            actat = set B.actat own e;
-            actno = set B.actno own n;
-            actneed = set B.actneed own w.n4;
-            row = set B.row own r.a;
-            colat = B.colat;
-            colno = B.colno;
-            colpre = B.colpre;
-            colturn = B.colturn;
-            colout = B.colout;
-            shutat = B.shutat;
-            shutno = B.shutno;
-          }
+      abbrev pub act_by : Banks
+      act_by = act_banks B w own r.a e n
 
-      abbrev pub act_waits : Waits
-      act_waits =
-          record {
-            act = raised_at W.act own (e + C.trc);
-            col = raised_at (raised_at W.col own (e + w.n4)) (own + 8) (e + w.n4);
-            pre = raised_at W.pre own (e + C.tras);
-            holds = W.holds;
-          }
+      abbrev pub act_waits_by : Waits
+      act_waits_by = act_waits W C w own e
 
-      abbrev pub act_acts : Acts
-      act_acts = record { at = set s.acts.at s.acts.turn e; no = set s.acts.no s.acts.turn n; turn = (s.acts.turn + 1) % 4 }
+      abbrev pub act_acts_by : Acts
+      act_acts_by = act_acts s.acts e n
 
       pub act-moves : command_in s r ≡ Act
           → moved_of C (settled f s) r
-          ≡ settled (act_floor f (e + C.trrd) (four_at s.acts.at s.acts.no s.acts.turn C.tfaw)) (after act_banks act_waits act_acts)
+          ≡ settled (act_floor f (e + C.trrd) (four_at s.acts.at s.acts.no s.acts.turn C.tfaw)) (after act_by act_waits_by act_acts_by)
       unfolding debt_next banks_next acts_next device_next
       act-moves h =
-          moved_as Act (act_floor f (e + C.trrd) four) act_banks act_waits act_acts h refl (rw (n4-is C g w asked))
+          moved_as Act (act_floor f (e + C.trrd) four) act_by act_waits_by act_acts_by h refl (rw (n4-is C g w asked))
           (act-raises C r e g (start Act) four slow f W size w asked) refl refl
-          ∙ ap (λ y. settled (act_floor f (e + C.trrd) y) (after act_banks act_waits act_acts)) (four_same C s.acts)
+          ∙ ap (λ y. settled (act_floor f (e + C.trrd) y) (after act_by act_waits_by act_acts_by)) (four_same C s.acts)
 
       abbrev rd_long : Bool
       rd_long = eqb (r.a / 4096 % 2) 1
 
       -- of a RD (rd) or WR at the place i
-      abbrev pub col_banks : (rd : Bool) (i : ℕ) → Banks
-      col_banks rd i =
-          record {
-            actat = B.actat;
-            actno = B.actno;
-            actneed = B.actneed;
-            row = B.row;
-            colat = set B.colat i e;
-            colno = set B.colno i n;
-            colpre = set B.colpre i (col_pre w rd);
-            colturn = set B.colturn i (col_turn w rd rd_long);
-            colout = set B.colout i (col_out w rd rd_long);
-            shutat = B.shutat;
-            shutno = B.shutno;
-          }
+      abbrev pub col_by : (rd : Bool) (i : ℕ) → Banks
+      col_by rd i = col_banks B w rd rd_long i e n
 
-      abbrev pub col_waits : (rd : Bool) → Waits
-      col_waits rd = record { act = W.act; col = W.col; pre = raised_at W.pre own (e + col_pre w rd); holds = W.holds }
+      abbrev pub col_waits_by : (rd : Bool) → Waits
+      col_waits_by rd = col_waits W w rd own e
 
       pub rd-moves : command_in s r ≡ Rd → a10 r ≡ false
-          → moved_of C (settled f s) r ≡ settled (column_floor f w true rd_long e) (after (col_banks true own) (col_waits true) s.acts)
+          → moved_of C (settled f s) r ≡ settled (column_floor f w true rd_long e) (after (col_by true own) (col_waits_by true) s.acts)
       unfolding debt_next banks_next acts_next device_next
       rd-moves h z =
-          moved_as Rd _ (col_banks true own) _ s.acts h refl
+          moved_as Rd _ (col_by true own) _ s.acts h refl
           (rw (z, n10-is C g w asked, n13-is C g w asked r.a, n19-is C g w asked r.a))
           (rd-raises C r e g (start Rd) four slow f W size w asked z) refl refl
 
       pub wr-moves : command_in s r ≡ Wr → a10 r ≡ false
-          → moved_of C (settled f s) r ≡ settled (column_floor f w false rd_long e) (after (col_banks false (own + 8)) (col_waits false) s.acts)
+          → moved_of C (settled f s) r ≡ settled (column_floor f w false rd_long e) (after (col_by false (own + 8)) (col_waits_by false) s.acts)
       unfolding debt_next banks_next acts_next device_next
       wr-moves h z =
-          moved_as Wr _ (col_banks false (own + 8)) _ s.acts h refl
+          moved_as Wr _ (col_by false (own + 8)) _ s.acts h refl
           (rw (z, n11-is C g w asked, n14-is C g w asked))
           (wr-raises C r e g (start Wr) four slow f W size w asked z) refl refl
 
@@ -216,21 +171,21 @@ module _ (C : Chip) (s : Rank) (f : Floor) (r : Record) where
       pub rd-auto-moves : command_in s r ≡ Rd → a10 r ≡ true
           → moved_of C (settled f s) r
           ≡ settled (shut_floor (column_floor f w true rd_long e) (start_by true + C.trp))
-          (after (shut_banks (col_banks true own) (start_by true)) (shut_waits (col_waits true) (start_by true + C.trp)) s.acts)
+          (after (shut_by (col_by true own) (start_by true)) (shut_waits_by (col_waits_by true) (start_by true + C.trp)) s.acts)
       unfolding debt_next banks_next acts_next device_next
       rd-auto-moves h z =
-          moved_as Rd _ (shut_banks (col_banks true own) (start Rd)) _ s.acts h refl
+          moved_as Rd _ (shut_by (col_by true own) (start Rd)) _ s.acts h refl
           (rw (z, n10-is C g w asked, n13-is C g w asked r.a, n19-is C g w asked r.a))
           (rd-auto-raises C r e g (start Rd) four slow f W size w asked z) refl refl
-          ∙ ap (λ x. settled (shut_floor (column_floor f w true rd_long e) (x + C.trp)) (after (shut_banks (col_banks true own) x) (shut_waits (col_waits true) (x + C.trp)) s.acts)) (sym rd-start)
+          ∙ ap (λ x. settled (shut_floor (column_floor f w true rd_long e) (x + C.trp)) (after (shut_by (col_by true own) x) (shut_waits_by (col_waits_by true) (x + C.trp)) s.acts)) (sym rd-start)
 
       pub wr-auto-moves : command_in s r ≡ Wr → a10 r ≡ true
           → moved_of C (settled f s) r
           ≡ settled (shut_floor (column_floor f w false rd_long e) (start_by false + C.trp))
-          (after (shut_banks (col_banks false (own + 8)) (start_by false)) (shut_waits (col_waits false) (start_by false + C.trp)) s.acts)
+          (after (shut_by (col_by false (own + 8)) (start_by false)) (shut_waits_by (col_waits_by false) (start_by false + C.trp)) s.acts)
       unfolding debt_next banks_next acts_next device_next
       wr-auto-moves h z =
-          moved_as Wr _ (shut_banks (col_banks false (own + 8)) (start Wr)) _ s.acts h refl
+          moved_as Wr _ (shut_by (col_by false (own + 8)) (start Wr)) _ s.acts h refl
           (rw (z, n11-is C g w asked, n14-is C g w asked))
           (wr-auto-raises C r e g (start Wr) four slow f W size w asked z) refl refl
-          ∙ ap (λ x. settled (shut_floor (column_floor f w false rd_long e) (x + C.trp)) (after (shut_banks (col_banks false (own + 8)) x) (shut_waits (col_waits false) (x + C.trp)) s.acts)) (sym wr-start)
+          ∙ ap (λ x. settled (shut_floor (column_floor f w false rd_long e) (x + C.trp)) (after (shut_by (col_by false (own + 8)) x) (shut_waits_by (col_waits_by false) (x + C.trp)) s.acts)) (sym wr-start)

@@ -21,7 +21,7 @@ use Rattle.laws.proofs.Both.{both}
 use Rattle.edges.specs.declared.Banks.{Banks}
 use Rattle.edges.specs.declared.Acts.{Acts}
 use Rattle.edges.specs.declared.Floor.{Floor}
-use Rattle.edges.specs.Ways.{raised_at, shut_floor, column_floor, col_pre, col_turn, col_out, col_start, four_at, act_floor, may_column, may_precharge, may_activate}
+use Rattle.edges.specs.Ways.{raised_at, shut_floor, column_floor, col_pre, col_start, four_at, act_floor, shut_banks, act_banks, col_banks, may_column, may_precharge, may_activate}
 use Rattle.edges.specs.Step.{step_of}
 use Rattle.edges.specs.Running.{Track, Rest, rank_of, Quiet, Standing, Quickly}
 use Rattle.edges.proofs.Lists.{get_d_set}
@@ -85,20 +85,7 @@ module _ (C : Chip) (w : Asks) (put dll : Bool) (clear : ℕ) (bytes : List ℕ)
 
   -- with a precharge of the record's bank that starts at the edge x
   abbrev pub shut_by : Banks → (x : ℕ) → Banks
-  shut_by K x =
-      record {
-        actat = K.actat;
-        actno = K.actno;
-        actneed = K.actneed;
-        row = K.row;
-        colat = K.colat;
-        colno = K.colno;
-        colpre = K.colpre;
-        colturn = K.colturn;
-        colout = K.colout;
-        shutat = set K.shutat own x;
-        shutno = set K.shutno own n;
-      }
+  shut_by K x = shut_banks K own x n
 
   kept_at : (xs : List ℕ) (b : ℕ) → get_or xs b 0 ≡ cond (eqb own b) (get_or xs own 0) (get_or xs b 0)
   kept_at xs b = go (eqb own b) refl
@@ -141,20 +128,7 @@ module _ (C : Chip) (w : Asks) (put dll : Bool) (clear : ℕ) (bytes : List ℕ)
   -- ── An ACT ──────────────────────────────────────────────────────────────────────────────────
 
   abbrev pub act_by : Banks
-  act_by =
-      record {
-        actat = set B.actat own e;
-        actno = set B.actno own n;
-        actneed = set B.actneed own w.n4;
-        row = set B.row own r.a;
-        colat = B.colat;
-        colno = B.colno;
-        colpre = B.colpre;
-        colturn = B.colturn;
-        colout = B.colout;
-        shutat = B.shutat;
-        shutno = B.shutno;
-      }
+  act_by = act_banks B w own r.a e n
 
   act-soon : NoneSoon C act_by e clear
   act-soon =
@@ -193,20 +167,7 @@ module _ (C : Chip) (w : Asks) (put dll : Bool) (clear : ℕ) (bytes : List ℕ)
 
   -- at the place i
   abbrev pub col_by : (rd : Bool) (i : ℕ) → Banks
-  col_by rd i =
-      record {
-        actat = B.actat;
-        actno = B.actno;
-        actneed = B.actneed;
-        row = B.row;
-        colat = set B.colat i e;
-        colno = set B.colno i n;
-        colpre = set B.colpre i (col_pre w rd);
-        colturn = set B.colturn i (col_turn w rd long_now);
-        colout = set B.colout i (col_out w rd long_now);
-        shutat = B.shutat;
-        shutno = B.shutno;
-      }
+  col_by rd i = col_banks B w rd long_now i e n
 
   abbrev pub col_track : (rd : Bool) (i : ℕ) → Track
   col_track rd i = track (col_by rd i) t.act t.col (raised_at t.pre own (e + col_pre w rd)) t.acts (column_floor t.floor w rd long_now e)

@@ -2,7 +2,6 @@
 -- Assumes nothing.
 use Prim.Native.Nat.{ℕ, ◌+◌, ◌-◌, ◌/◌, ◌%◌, ◌≤◌, ◌<◌}
 use native.Mathlib.Omega.{arith}
-use mathlib.Core.Bool.{Bool}
 use mathlib.Core.List.{List}
 use mathlib.Core.Path.{◌≡◌, refl, sym, subst}
 use lib.ListN.{length}
@@ -11,14 +10,12 @@ use Rattle.records.specs.declared.Record.{Record}
 use Rattle.records.specs.Record.{record_at}
 use Rattle.chip.specs.declared.Chip.{Chip}
 use Rattle.running.specs.Ranges.{limit, Small}
-use Rattle.edges.specs.declared.Device.{Device}
-use Rattle.edges.specs.declared.Debt.{Debt}
 use Rattle.edges.specs.declared.Rank.{Rank}
 use Rattle.edges.specs.Step.{step_of}
 use Rattle.edges.specs.Floors.{under, settled}
 use Rattle.edges.specs.Ranges.{Ranged, Ready}
-use Rattle.edges.specs.Running.{Track, rank_of, Along}
-use Rattle.edges.specs.Lane.{track_in, rest_by, Fit, Smoothly}
+use Rattle.edges.specs.Running.{Track, Rest, rank_of, Along, rest_in}
+use Rattle.edges.specs.Lane.{track_in, Fit, Smoothly}
 use Rattle.edges.specs.Folding.{Reached, Counting}
 use Rattle.edges.proofs.Stands.{whole-record, short-step, one_more_lem}
 use Rattle.edges.proofs.Ranging.{step-goes}
@@ -57,33 +54,32 @@ module _ (C : Chip) (bytes : List ℕ) where
     later = omega (arith, f.later, g.later);
   }
 
-  -- a lane from s on, its arrays put together and the floor put in
+  -- a lane from s on, the floor put in
   pub reached-lane :
-      (s : Rank) (from : ℕ) → Reached C bytes s from s from → (l : Bool) (x : Debt) (h : List ℕ) (D : Device) (t : Track) (at : ℕ)
-      → Smoothly C bytes from s.level s.debt s.waits.holds s.device (track_in s) l x h D t at
-      → Reached C bytes s from (rank_of (rest_by l x h D s.first) t) at
+      (s : Rank) (from : ℕ) → Reached C bytes s from s from → (d : Rest) (t : Track) (at : ℕ) → Smoothly C bytes (rest_in s) (track_in s) from d t at
+      → Reached C bytes s from (rank_of d t) at
   unfolding settled under table
-  reached-lane s from f l x h D t at q =
-      let b = q.fit.base in
+  reached-lane s from f d t at q =
+      let b = q.stands.fit.base in
       record {
-        fit = record { base = stand-at C bytes at _ b.small b.within b.sixes b.edge b.room b.turn b.acted b.ring long; debt = q.fit.debt; turned = q.fit.turned };
+        fit = record { base = stand-at C bytes at _ b.small b.within b.sixes b.edge b.room b.turn b.acted b.ring long; debt = q.stands.fit.debt; turned = q.stands.fit.turned };
         holds = refl;
-        clean = f.clean;
-        broke = f.broke;
-        along = subst (λ (n : Rank). Along C bytes n from (rank_of (rest_by l x h D s.first) t) at) (apart s (record { track = stand-sizes f.fit.base; holds = f.holds })) (q.along s.first f.clean f.broke);
+        clean = q.stands.clean;
+        broke = q.stands.broke;
+        along = subst (λ (n : Rank). Along C bytes n from (rank_of d t) at) (apart s (record { track = stand-sizes f.fit.base; holds = f.holds })) q.along;
         later = q.later;
       }
     where
-      long : Lengths (track_in (rank_of (rest_by l x h D s.first) t))
+      long : Lengths (track_in (rank_of d t))
       long = record {
         act = refl;
         col = refl;
         pre = refl;
-        acted = q.fit.base.actedsize;
-        num = q.fit.base.numsize;
-        shut = q.fit.base.shutsize;
-        by = q.fit.base.bysize;
-        ring = q.fit.base.ringsize;
+        acted = q.stands.fit.base.actedsize;
+        num = q.stands.fit.base.numsize;
+        shut = q.stands.fit.base.shutsize;
+        by = q.stands.fit.base.bysize;
+        ring = q.stands.fit.base.ringsize;
       }
 
   -- a record by the marks

@@ -31,7 +31,7 @@ use Rattle.edges.proofs.Lists.{get_or-low, get_or-high}
 use Rattle.edges.proofs.Easy.{NoneDue, NotOwed, NotLong, AllFine, says_none}
 use Rattle.edges.proofs.Fine.{act-fine, rd-fine, wr-fine, pre-fine, nop-fine, des-fine}
 use Rattle.edges.proofs.Ways.{Sized}
-use Rattle.edges.proofs.Moving.{after, shut_banks, shut_waits, act_banks, act_waits, act_acts, col_banks, col_waits, start_by, nop-moves, des-moves, pre-moves, act-moves, rd-moves, wr-moves, rd-auto-moves, wr-auto-moves}
+use Rattle.edges.proofs.Moving.{after, shut_by, shut_waits_by, act_by, act_waits_by, act_acts_by, col_by, col_waits_by, start_by, nop-moves, des-moves, pre-moves, act-moves, rd-moves, wr-moves, rd-auto-moves, wr-auto-moves}
 
 -- ── What a command waits for, with the floor ────────────────────────────────────────────────
 
@@ -151,7 +151,7 @@ module _ (C : Chip) (w : Asks) (set dll : Bool) (clear : ℕ) (d : Rest) (quiet 
 
   pub pre-turn : r.pins ≡ 2 → a10 r ≡ false → (get_or t.banks.shutno own 0 < get_or t.banks.actno own 0) ⊎ (get_or t.banks.shutat own 0 ≤ e)
       → get_or t.pre own 0 ≤ e → f.pre ≤ e
-      → step_of C (rank_of d t) r ≡ rank_of d (next (shut_banks C s f r size t.banks e) (shut_waits C s f r size s.waits (e + C.trp)) t.acts (shut_floor f (e + C.trp)))
+      → step_of C (rank_of d t) r ≡ rank_of d (next (shut_by C s f r size t.banks e) (shut_waits_by C s f r size s.waits (e + C.trp)) t.acts (shut_floor f (e + C.trp)))
   unfolding by_pins settled
   pre-turn p z k x y =
       let c = pins-of 2 Pre p refl in
@@ -160,7 +160,7 @@ module _ (C : Chip) (w : Asks) (set dll : Bool) (clear : ℕ) (d : Rest) (quiet 
   pub act-turn : r.pins ≡ 3 → set ≡ true → get_or t.banks.actno own 0 ≤ get_or t.banks.shutno own 0 → get_or t.banks.shutat own 0 ≤ e
       → get_or t.act own 0 ≤ e → f.act ≤ e
       → step_of C (rank_of d t) r
-      ≡ rank_of d (next (act_banks C s f r size w quiet.asked) (act_waits C s f r size w quiet.asked) (act_acts C s f r size w quiet.asked)
+      ≡ rank_of d (next (act_by C s f r size w quiet.asked) (act_waits_by C s f r size w quiet.asked) (act_acts_by C s f r size w quiet.asked)
       (act_floor f (e + C.trrd) (four_at t.acts.at t.acts.no t.acts.turn C.tfaw)))
   unfolding by_pins settled
   act-turn p z k l x y =
@@ -171,15 +171,15 @@ module _ (C : Chip) (w : Asks) (set dll : Bool) (clear : ℕ) (d : Rest) (quiet 
   rd_long = eqb (r.a / 4096 % 2) 1
 
   abbrev pub col_next : (rd : Bool) (i : ℕ) → Track
-  col_next rd i = next (col_banks C s f r size w quiet.asked rd i) (col_waits C s f r size w quiet.asked rd) t.acts (column_floor f w rd rd_long e)
+  col_next rd i = next (col_by C s f r size w quiet.asked rd i) (col_waits_by C s f r size w quiet.asked rd) t.acts (column_floor f w rd rd_long e)
 
   abbrev pub col_starts : (rd : Bool) → ℕ
   col_starts rd = start_by C s f r size w quiet.asked rd
 
   abbrev pub auto_next : (rd : Bool) (i : ℕ) → Track
   auto_next rd i =
-      next (shut_banks C s f r size (col_banks C s f r size w quiet.asked rd i) (col_starts rd))
-      (shut_waits C s f r size (col_waits C s f r size w quiet.asked rd) (col_starts rd + C.trp)) t.acts
+      next (shut_by C s f r size (col_by C s f r size w quiet.asked rd i) (col_starts rd))
+      (shut_waits_by C s f r size (col_waits_by C s f r size w quiet.asked rd) (col_starts rd + C.trp)) t.acts
       (shut_floor (column_floor f w rd rd_long e) (col_starts rd + C.trp))
 
   module _ (opened : get_or t.banks.shutno own 0 < get_or t.banks.actno own 0) where

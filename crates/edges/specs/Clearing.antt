@@ -1,9 +1,10 @@
 -- The edge before which no deadline passes.
 -- Assumes nothing.
-use Rattle.std.specs.Prelude.{ℕ, ◌+◌, ◌≤◌, ◌<◌, min, Bool, true, cond, ◌||◌, List, ◌⊎◌, ◌≡◌, ltb, get_or}
+use Rattle.std.specs.Prelude.{ℕ, ◌+◌, ◌≤◌, ◌<◌, min, Bool, true, cond, ◌||◌, ◌⊎◌, ◌≡◌, ltb, get_or}
 use Rattle.records.specs.declared.Command.{Command}
 use Rattle.records.specs.declared.Command.TheVariants.{Ref, Pre, Srx, Pde}
 use Rattle.records.specs.Command.{is_a}
+use Rattle.edges.specs.declared.Banks.{Banks}
 use Rattle.edges.specs.declared.Debt.{Debt}
 
 -- of a bank: the edge and number of its ACT, the start and number of its precharge
@@ -14,10 +15,13 @@ due_by most a n x m = cond (ltb m n) (a + most + 1) (cond (ltb (a + most) x) (a 
 abbrev pub Off : (lo x d : ℕ) → Type 0
 Off lo x d = (d ≤ lo) ⊎ (x ≤ d)
 
--- no bank comes due after lo and before x, given by its arrays
-abbrev pub Clears : (most : ℕ) (actat actno shutat shutno : List ℕ) (lo x : ℕ) → Type 0
-Clears most actat actno shutat shutno lo x =
-    (b : ℕ) → b < 8 → Off lo x (due_by most (get_or actat b 0) (get_or actno b 0) (get_or shutat b 0) (get_or shutno b 0))
+-- bank b does not come due after lo and before x
+abbrev pub BankClears : (most : ℕ) → Banks → (lo x b : ℕ) → Type 0
+BankClears most B lo x b = Off lo x (due_by most (get_or B.actat b 0) (get_or B.actno b 0) (get_or B.shutat b 0) (get_or B.shutno b 0))
+
+-- no bank does
+abbrev pub Clears : (most : ℕ) → Banks → (lo x : ℕ) → Type 0
+Clears most B lo x = (b : ℕ) → b < 8 → BankClears most B lo x b
 
 -- nor is the debt due before it, or the last REF too far back
 abbrev pub Owing : Debt → (x : ℕ) → Type 0
@@ -38,12 +42,6 @@ clear_next m s c e at D x =
     cond (is_a Ref c || is_a Pre c) (owing_by D (e + m + 1)) (cond (is_a Srx c) (owing_by D x) (cond (is_a Pde c) (min x (at + s + 1)) x))
 
 -- the banks below b have been seen, and x is not far
-pub record ClearTo (most : ℕ) (actat actno shutat shutno : List ℕ) (lo x b : ℕ) : Type 0 where
-  pub seen : (i : ℕ) → i < b → Off lo x (due_by most (get_or actat i 0) (get_or actno i 0) (get_or shutat i 0) (get_or shutno i 0))
+pub record ClearTo (most : ℕ) (B : Banks) (lo x b : ℕ) : Type 0 where
+  pub seen : (i : ℕ) → i < b → BankClears most B lo x i
   pub near : x ≤ lo + most + 1
-  pub within : b ≤ 8
-
--- the numbers below place b are not above n
-pub record NoneAbove (nums : List ℕ) (n b : ℕ) : Type 0 where
-  pub seen : (i : ℕ) → i < b → get_or nums i 0 ≤ n
-  pub within : b ≤ 8

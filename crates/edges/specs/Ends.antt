@@ -20,7 +20,7 @@ use Rattle.edges.specs.declared.Acts.{Acts}
 use Rattle.edges.specs.declared.Device.{Device}
 use Rattle.edges.specs.declared.Debt.{Debt}
 use Rattle.edges.specs.declared.Rank.{Rank}
-use Rattle.edges.specs.declared.Folded.{Folded}
+use Rattle.edges.specs.Folded.{Folded}
 use Rattle.edges.specs.Views.{kept_of, regs_of, written_of}
 use Rattle.edges.specs.Next.{counting}
 use Rattle.edges.specs.Says.{next24, next25, next28, next31, soonest_of, refreshed}

@@ -5,7 +5,7 @@ use Rattle.records.specs.Record.{records, has_zero}
 use Rattle.chip.specs.declared.Chip.{Chip}
 use Rattle.running.specs.Ranges.{limit, last_edge}
 use Rattle.edges.specs.declared.Rank.{Rank}
-use Rattle.edges.specs.declared.Folded.{Folded}
+use Rattle.edges.specs.Folded.{Folded}
 use Rattle.edges.specs.Step.{fold_of}
 use Rattle.edges.specs.Running.{Along}
 use Rattle.edges.specs.Lane.{Fit, track_in}

@@ -7,9 +7,9 @@ pub mod Step
 pub mod Floors
 pub mod Ways
 pub mod Seldom
-pub mod Parts
 pub mod Running
 pub mod Ranges
 pub mod Lane
 pub mod Folding
 pub mod Ends
+pub mod Folded

@@ -75,14 +75,14 @@ unfoldable pub slow_now : Banks → Device → Bool
 slow_now B D = get_or D.written 0 false && (not (set1 (get_or D.codes 0 0) 12) && none_open B)
 
 -- something of the latest REF, MRS, ZQ, SRE, SRX, DLL reset
-abbrev pub stamped : Command → Record → List ℕ → (ref mrs zq sre srx dll : ℕ) → List ℕ
+abbrev pub stamped : {A : Type 0} → Command → Record → List A → (ref mrs zq sre srx dll : A) → List A
 stamped c r xs ref mrs zq sre srx dll =
     set_if (resets_now c r)
     (set_if (is_a Srx c) (set_if (is_a Sre c) (set_if (is_a Zq c) (set_if (is_a Mrs c) (set_if (is_a Ref c) xs REF ref) MRS mrs) ZQ zq) SRE sre) SRX srx)
     DLL dll
 
 -- and of the latest change of CKE, power-down exit and slow one
-abbrev pub turned_to : Command → (slow : Bool) → List ℕ → (cke pdx late : ℕ) → List ℕ
+abbrev pub turned_to : {A : Type 0} → Command → (slow : Bool) → List A → (cke pdx late : A) → List A
 turned_to c slow xs cke pdx late = set_if (is_a Pdx c && slow) (set_if (is_a Pdx c) (set_if (changing c) xs CKE cke) PDX pdx) SLOW late
 
 unfoldable pub device_next : Chip → Command → Record → (e n : ℕ) → (slow : Bool) → Device → Device

@@ -2,7 +2,8 @@
 -- Assumes nothing.
 use Rattle.std.specs.Prelude.{ℕ, ◌+◌, ◌-◌, ◌*◌, ◌/◌, ◌%◌, ◌≤◌, ◌<◌, Bool, true, ◌&&◌, List, ◌⊎◌, ◌≡◌, get_or, length, drop}
 use Rattle.answers.specs.declared.Verdict.{Verdict}
-use Rattle.records.specs.Record.{records, has_zero}
+use Rattle.records.specs.declared.Record.{Record}
+use Rattle.records.specs.Record.{records, record_at, has_zero}
 use Rattle.chip.specs.declared.Chip.{Chip}
 use Rattle.running.specs.declared.Asks.{Asks}
 use Rattle.running.specs.Easy.{Asked}
@@ -107,30 +108,26 @@ pub record Quickly (C : Chip) (w : Asks) (set dll : Bool) (clear : ℕ) (bytes :
   pub below : t.edge < clear → t'.edge < clear
   pub still : clear ≤ t.edge → (t' ≡ t) × (at' ≡ at)
 
--- the track of these arrays
-abbrev pub track_of :
-    (edge count : ℕ) (actat actno actneed row colat colno colpre colturn colout shutat shutno act col pre at num : List ℕ) (turn : ℕ) → Floor → Track
-track_of e n a1 a2 a3 a4 c1 c2 c3 c4 c5 s1 s2 w1 w2 w3 r1 r2 turn f =
+-- a frequent command r that is fine takes the track t to t', whatever the loop has come through; D: the device
+pub record Turns (C : Chip) (w : Asks) (r : Record) (D : Device) (t t' : Track) : Type 0 where
+  pub further : (clear : ℕ) (bytes : List ℕ) (t₀ : Track) (at₀ at : ℕ) → Quickly C w (all_written D) (written_of D).dll clear bytes t₀ at₀ t at
+      → at < length bytes → r ≡ record_at bytes at → (r.step ≡ 0 → ⊥) → r.cke ≡ true → t.edge + r.step < clear
+      → Quickly C w (all_written D) (written_of D).dll clear bytes t₀ at₀ t' (at + 6)
+
+-- the track of a rank and of what was asked since
+abbrev pub track_of : Rank → Floor → Track
+track_of s f =
     record {
-      edge = e;
-      count = n;
-      banks =
-          record {
-            actat = a1;
-            actno = a2;
-            actneed = a3;
-            row = a4;
-            colat = c1;
-            colno = c2;
-            colpre = c3;
-            colturn = c4;
-            colout = c5;
-            shutat = s1;
-            shutno = s2;
-          };
-      act = w1;
-      col = w2;
-      pre = w3;
-      acts = record { at = r1; no = r2; turn = turn };
+      edge = s.edge;
+      count = s.count;
+      banks = s.banks;
+      act = s.waits.act;
+      col = s.waits.col;
+      pre = s.waits.pre;
+      acts = s.acts;
       floor = f;
     }
+
+-- and the rest of it
+abbrev pub rest_in : Rank → Rest
+rest_in s = record { first = s.first; level = s.level; debt = s.debt; holds = s.waits.holds; device = s.device }

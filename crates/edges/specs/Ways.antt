@@ -8,6 +8,9 @@ use Rattle.chip.specs.declared.Chip.{Chip}
 use Rattle.running.specs.declared.Asks.{Asks}
 use Rattle.running.specs.Next.{resets_now}
 use Rattle.edges.specs.Asks.{need18}
+use Rattle.edges.specs.declared.Banks.{Banks}
+use Rattle.edges.specs.declared.Waits.{Waits}
+use Rattle.edges.specs.declared.Acts.{Acts}
 use Rattle.edges.specs.declared.Floor.{Floor}
 
 -- at a place the greater of what was and what is now asked
@@ -57,6 +60,44 @@ four_at at num turn tfaw = cond (not (eqb (get_or num ((turn + 1) % 4) 0) 0)) (g
 -- an ACT
 abbrev pub act_floor : Floor → (x four : ℕ) → Floor
 act_floor f x y = record { act = max f.act (max x y); rd = f.rd; wr = f.wr; pre = f.pre; idle = f.idle; out = f.out }
+
+-- ── What a frequent command leaves behind, of bank b at the edge e by record n ──────────────
+
+-- a precharge
+abbrev pub shut_banks : Banks → (b e n : ℕ) → Banks
+shut_banks B b e n = record B { shutat = set B.shutat b e; shutno = set B.shutno b n }
+
+abbrev pub shut_waits : Waits → (b x : ℕ) → Waits
+shut_waits W b x = record W { act = raised_at W.act b x }
+
+-- an ACT of a row
+abbrev pub act_banks : Banks → Asks → (b row e n : ℕ) → Banks
+act_banks B w b a e n = record B { actat = set B.actat b e; actno = set B.actno b n; actneed = set B.actneed b w.n4; row = set B.row b a }
+
+abbrev pub act_waits : Waits → Chip → Asks → (b e : ℕ) → Waits
+act_waits W C w b e =
+    record W {
+      act = raised_at W.act b (e + C.trc);
+      col = raised_at (raised_at W.col b (e + w.n4)) (b + 8) (e + w.n4);
+      pre = raised_at W.pre b (e + C.tras);
+    }
+
+abbrev pub act_acts : Acts → (e n : ℕ) → Acts
+act_acts A e n = record { at = set A.at A.turn e; no = set A.no A.turn n; turn = (A.turn + 1) % 4 }
+
+-- a RD or WR, at its place
+abbrev pub col_banks : Banks → Asks → (rd long : Bool) → (place e n : ℕ) → Banks
+col_banks B w rd l i e n =
+    record B {
+      colat = set B.colat i e;
+      colno = set B.colno i n;
+      colpre = set B.colpre i (col_pre w rd);
+      colturn = set B.colturn i (col_turn w rd l);
+      colout = set B.colout i (col_out w rd l);
+    }
+
+abbrev pub col_waits : Waits → Asks → (rd : Bool) → (b e : ℕ) → Waits
+col_waits W w rd b e = record W { pre = raised_at W.pre b (e + col_pre w rd) }
 
 -- ── When a frequent command is fine: rule 2, and its waiting time is over ───────────────────
 

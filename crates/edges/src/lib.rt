@@ -85,10 +85,3 @@ pub struct Floor {
     pub idle: u64,
     pub out: u64,
 }
-
-// The rank after a section, and whether a step in it was 0: then it is as it was.
-#[derive(Clone, Copy)]
-pub struct Folded {
-    pub zero: bool,
-    pub rank: Rank,
-}

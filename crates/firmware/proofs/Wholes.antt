@@ -14,9 +14,9 @@ use Rattle.laws.specs.Lent.{written}
 use Rattle.laws.proofs.Lent.{refuses}
 use Rattle.answers.specs.declared.Verdict.{Verdict}
 use Rattle.answers.specs.Answer.{verdict_bytes, room_for, Reported, ReportedBoth}
-use Rattle.judge.specs.declared.Opened.{Opened}
-use Rattle.judge.specs.declared.Taken.{Taken}
-use Rattle.judge.specs.declared.Closed.{Closed}
+use Rattle.judge.specs.Answers.{OpenAnswer as Opened}
+use Rattle.judge.specs.Answers.{SectionAnswer as Taken}
+use Rattle.judge.specs.Answers.{CloseAnswer as Closed}
 use Rattle.judge.specs.Calls.{open_of, section_of, close_of}
 use Rattle.sections.specs.Recording.{whole_refusal, needed, judge_code}
 use Rattle.sections.proofs.Recordings.{too_short, refusal-most, not_opened, not_taken, closed-number, closed-verdict, closed-second}

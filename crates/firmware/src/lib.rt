@@ -4,8 +4,10 @@
 
 mod whole;
 
+ghost use Rattle.refusals.specs.Refusals.{number_in};
 ghost use Rattle.firmware.specs.Calls.{Judge, Register, Burst, Widening, Narrowing};
 
+use refusals::Refusal;
 use whole::{judged, needed};
 
 // A whole recording, header and records, closed at the edge end: in out the 20 bytes of the verdict; of edition 2 the 40 of the two ranks'.
@@ -13,14 +15,17 @@ use whole::{judged, needed};
 pub extern "C" fn manilaply_judge(recording: &[u8], end: u64, out: &mut [u8]) -> u32
     ensures { Judge recording.now end out.old result out.new }
 {
+    refusals::code(judge(recording, end, out))
+}
+
+fn judge(recording: &[u8], end: u64, out: &mut [u8]) -> Result<(), Refusal>
+    ensures { Judge recording.now end out.old (number_in result) out.new }
+{
     let two = header::edition_for(recording) == 2;
     if out.len() < needed(two) {
-        return 9;
+        return Err(Refusal::Room);
     }
-    let whole = judged(recording, end);
-    if whole.refused != 0 {
-        return whole.refused;
-    }
+    let whole = judged(recording, end)?;
     if two {
         return answers::put_verdicts(whole.verdict, whole.second, out);
     }
@@ -32,7 +37,7 @@ pub extern "C" fn manilaply_judge(recording: &[u8], end: u64, out: &mut [u8]) ->
 pub extern "C" fn manilaply_register(header: &[u8], number: u32, code: u16, out: &mut [u8]) -> u32
     ensures { Register header.now number code out.old result out.new }
 {
-    registers::read(header, number, code, out)
+    refusals::code(registers::read(header, number, code, out))
 }
 
 // The order of a burst's words, one byte a word, in out.
@@ -46,7 +51,7 @@ pub extern "C" fn manilaply_burst(
 ) -> u32
     ensures { Burst length start kind direction out.old result out.new }
 {
-    bursts::order(length, start, kind, direction, out)
+    refusals::code(bursts::order(length, start, kind, direction, out))
 }
 
 // A whole recording of edition 1 moved to edition 2, in out.
@@ -54,7 +59,7 @@ pub extern "C" fn manilaply_burst(
 pub extern "C" fn manilaply_widen(recording: &[u8], out: &mut [u8]) -> u32
     ensures { Widening recording.now out.old result out.new }
 {
-    moves::widen(recording, out)
+    refusals::code(moves::widen(recording, out))
 }
 
 // And back, where every record can go back.
@@ -62,5 +67,5 @@ pub extern "C" fn manilaply_widen(recording: &[u8], out: &mut [u8]) -> u32
 pub extern "C" fn manilaply_narrow(recording: &[u8], out: &mut [u8]) -> u32
     ensures { Narrowing recording.now out.old result out.new }
 {
-    moves::narrow(recording, out)
+    refusals::code(moves::narrow(recording, out))
 }

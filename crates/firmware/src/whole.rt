@@ -1,47 +1,33 @@
 // A whole recording in one go: opening, one section, closing.
-ghost use Rattle.std.specs.Prelude.{cond, ◌≡◌, ◌≤◌};
-ghost use Rattle.firmware.specs.Calls.{Judged};
+ghost use Rattle.std.specs.Prelude.{cond, ◌≡◌};
+ghost use Rattle.firmware.specs.Whole.{JudgedAs};
 
 use answers::Verdict;
 use judge::State;
+use refusals::Refusal;
 
-// The number of the first check that fails, or 0 and the verdicts of the first and the second rank; in edition 1 the second is zero.
+// The verdicts of the first and the second rank; in edition 1 the second is zero.
 #[derive(Clone, Copy)]
-pub struct Whole {
-    pub refused: u32,
+pub(crate) struct Whole {
     pub verdict: Verdict,
     pub second: Verdict,
 }
 
 // Checks 1, 2, 3, 4, 5, 7, 6, 14, 8.
-pub(crate) fn judged(recording: &[u8], end: u64) -> Whole
-    ensures { Judged recording.now end result.refused result.verdict result.second }
+pub(crate) fn judged(recording: &[u8], end: u64) -> Result<Whole, Refusal>
+    ensures { JudgedAs recording.now end result }
 {
-    let head: usize = 6;
-    if recording.len() < head {
-        return refused(1);
+    if recording.len() < 6 {
+        return Err(Refusal::HeaderLength);
     }
-    let opened = State::open(&recording[..head]);
-    if opened.refused != 0 {
-        return refused(opened.refused);
-    }
-    let state = opened.state;
-    let taken = state.section(&recording[head..]);
-    if taken.refused != 0 {
-        return refused(taken.refused);
-    }
+    let state = State::open(&recording[..6])?;
+    let taken = state.section(&recording[6..])?;
     let last = taken.state;
-    let closed = last.close(end);
-    if closed.refused != 0 {
-        return refused(closed.refused);
-    }
-    let verdict = closed.end.verdict;
-    let second = closed.second.verdict;
-    Whole {
-        refused: 0,
-        verdict: verdict,
-        second: second,
-    }
+    let closed = last.close(end)?;
+    Ok(Whole {
+        verdict: closed.end.verdict,
+        second: closed.second.verdict,
+    })
 }
 
 // The bytes that the answer takes.
@@ -52,25 +38,4 @@ pub(crate) fn needed(two: bool) -> usize
         return 40;
     }
     20
-}
-
-// A refusal's number alone.
-fn refused(n: u64) -> Whole
-    requires { n ≤ 255 }
-    ensures { result.refused ≡ n }
-{
-    let none = Verdict {
-        outcome: 0,
-        rule: 0,
-        number: 0,
-        partner: 0,
-        edge: 0,
-        needed: 0,
-        found: 0,
-    };
-    Whole {
-        refused: n as u32,
-        verdict: none,
-        second: none,
-    }
 }

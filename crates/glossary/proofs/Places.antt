@@ -6,12 +6,13 @@ use mathlib.Core.Bool.{true, false, cond}
 use mathlib.Core.Logic.{⊎_elim}
 use mathlib.Core.Path.{◌≡◌, refl}
 use lib.Dec.{eqb, ltb}
-use borrow.Author.Tests.{eq-eqb, ne_eqb, eqb-true, lt-ltb, ltb-true, ltb-false}
+use borrow.Author.Tests.{ne_eqb, eqb-true, lt-ltb, ltb-true, ltb-false}
+use Rattle.std.specs.Prelude.{min}
 use Rattle.rules.specs.Past.{Past}
 use Rattle.rules.proofs.Generic.{decide}
 use Rattle.tally.specs.Counts.{count_of, tally_of}
 use Rattle.tally.proofs.Nineteen.{at-nineteen}
-use Rattle.glossary.specs.Glossary.{rows, row_of, place_from, place_of, line_of}
+use Rattle.glossary.specs.Glossary.{rows, row_of, within, place_from, place_of, line_of}
 use Rattle.glossary.proofs.Rows.{each, each_at, last_row}
 
 unroll : (i k : ℕ) → i < 27 → place_from (27 - i) i k ≡ cond (eqb (row_of i).kind k) i (place_from (27 - (i + 1)) (i + 1) k)
@@ -19,15 +20,19 @@ unroll i k h =
     let e : 27 - i ≡ suc (27 - (i + 1)) = omega arith in
     rw e
 
-pub found : (i k : ℕ) → i < 27 → (row_of i).kind ≡ k → place_from (27 - i) i k ≡ i
-found i k h e = rw (unroll i k h, eq-eqb _ _ e)
-
 pub passed : (i k : ℕ) → i < 27 → ((row_of i).kind ≡ k → ⊥) → place_from (27 - i) i k ≡ place_from (27 - (i + 1)) (i + 1) k
 passed i k h n = rw (unroll i k h, ne_eqb _ _ n)
 
 pub whole : (k : ℕ) → place_from (27 - 0) 0 k ≡ place_of k
 unfolding place_of
 whole k = refl
+
+-- a place, or the last one
+pub within_is : (m i : ℕ) → min i m ≡ within m i
+within_is m i = ⊎_elim
+    (λ (y : ltb i m ≡ true). rw y (omega (arith, ltb-true _ _ y)))
+    (λ (n : ltb i m ≡ false). rw n (omega (arith, ltb-false _ _ n)))
+    (decide (ltb i m))
 
 -- ── Kinds and rows ──────────────────────────────────────────────────────────────────────────
 

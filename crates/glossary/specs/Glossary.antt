@@ -1,24 +1,31 @@
 -- The rows by which a record is of a kind, with its name and its meaning: 01, "Commands and the 25 rules", first paragraph, and 02, Q-1, as a table.
 -- Assumes nothing.
-use Rattle.std.specs.Prelude.{ℕ, zero, suc, ◌+◌, ◌/◌, ◌%◌, Bool, true, false, cond, ◌&&◌, ◌||◌, List, [], ◌∷◌, eqb, ltb, get_or}
+use Rattle.std.specs.Prelude.{ℕ, zero, suc, ◌+◌, ◌/◌, ◌%◌, Bool, true, false, cond, ◌&&◌, List, [], ◌∷◌, map, eqb, ltb, get_or}
 use Prim.Native.String.{String}
 use Rattle.records.specs.declared.Record.{Record}
 use Rattle.records.specs.Command.{a10}
+use Rattle.glossary.specs.declared.Level.{Level}
+use Rattle.glossary.specs.declared.Level.TheVariants.{Low, High, Any}
 use Rattle.glossary.specs.declared.Row.{Row}
 use Rattle.glossary.specs.declared.Line.{Line}
 use Rattle.glossary.specs.Text.{filled}
 
 -- ── The table ───────────────────────────────────────────────────────────────────────────────
 
--- any level
+-- a level as the table writes it: 0 low, 1 high, x any
 abbrev pub x : ℕ
 x = 2
+
+abbrev pub level_of : ℕ → Level
+level_of zero = Low
+level_of (suc zero) = High
+level_of (suc (suc n)) = Any
 
 abbrev row : (kind : ℕ) (name : String) (before now asleep cs ras cas we a10 : ℕ) (meaning : String) → Row
 row kind name before now asleep cs ras cas we a10 meaning = record {
   kind = kind;
   name = filled 9 name;
-  levels = before ∷ now ∷ asleep ∷ cs ∷ ras ∷ cas ∷ we ∷ a10 ∷ [];
+  levels = map level_of (before ∷ now ∷ asleep ∷ cs ∷ ras ∷ cas ∷ we ∷ a10 ∷ []);
   meaning = filled 52 meaning;
 }
 
@@ -90,10 +97,12 @@ line_of i counts = record { row = row_of i; first = eqb (place_of (row_of i).kin
 -- ── Which rows a record shows ───────────────────────────────────────────────────────────────
 
 -- the level of a pin is that of the row, or the row takes any
-abbrev pub fits : (row pin : ℕ) → Bool
-fits l p = eqb l x || eqb l p
+abbrev pub fits : (row : Level) (pin : ℕ) → Bool
+fits Low p = eqb p 0
+fits High p = eqb p 1
+fits Any p = true
 
-abbrev pub all_fit : (row pins : List ℕ) → Bool
+abbrev pub all_fit : (row : List Level) (pins : List ℕ) → Bool
 all_fit (l ∷ ls) (p ∷ ps) = fits l p && all_fit ls ps
 all_fit [] ps = true
 all_fit (l ∷ ls) [] = false

@@ -10,12 +10,21 @@ ghost use Rattle.glossary.specs.Promises.{RowAt, RowOf, LineAt};
 
 use table::ROWS;
 
-// A kind of the tally and its name; the levels of CKE before and now, of being asleep before, of CS, RAS, CAS, WE and A10: 0 low, 1 high, 2 any; what it means.
+// The level of a pin, or of being asleep, in a row; or any.
+#[derive(Clone, Copy, PartialEq, Eq)]
+pub enum Level {
+    Low,
+    High,
+    Any,
+}
+
+// A kind of the tally and its name; the levels of CKE before and now, of being asleep before, of CS, RAS, CAS, WE and A10; what it means. The
+// texts are arrays, since a reference has an address besides, and a row is to be equal to that of the definition.
 #[derive(Clone, Copy)]
 pub struct Row {
     pub kind: u64,
     pub name: [u8; 9],
-    pub levels: [u64; 8],
+    pub levels: [Level; 8],
     pub meaning: [u8; 52],
 }
 
@@ -31,11 +40,10 @@ pub struct Line {
 pub fn row_at(place: usize) -> Row
     ensures { RowAt place result }
 {
-    let at = within(place);
-    ROWS[at]
+    ROWS[place.min(27)]
 }
 
-// The first row of a kind; above the last kind, the last row.
+// The first row of a kind; above the last kind, the last row. A number, since there is an answer for any: `RowOf`.
 pub fn row_of(kind: u64) -> Row
     ensures { RowOf kind result }
 {
@@ -56,35 +64,20 @@ pub fn line_at(place: usize, counts: [u64; 19]) -> Line
     }
 }
 
+// By `for`: with `position` over the table the proof did not close.
 fn place_of(kind: u64) -> usize
     ensures { (result ≡ defs.place_of kind) × (result < 28) }
 {
-    let mut i: usize = 0;
-    while i < 27 {
-        let w = row_at(i);
-        if w.kind == kind {
+    for i in 0..27 {
+        if row_at(i).kind == kind {
             return i;
         }
-        i += 1;
     }
-    i
+    27
 }
 
 fn count_in(counts: [u64; 19], kind: u64) -> u64
     ensures { result ≡ defs.count_in counts kind }
 {
-    if kind < 19 {
-        let k = kind as usize;
-        return counts[k];
-    }
-    0
-}
-
-fn within(place: usize) -> usize
-    ensures { (result ≡ defs.within 27 place) × (result < 28) }
-{
-    if place < 27 {
-        return place;
-    }
-    27
+    counts.get(kind as usize).copied().unwrap_or(0)
 }

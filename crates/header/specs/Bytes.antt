@@ -1,10 +1,10 @@
 -- The six header bytes and the refusals of opening: 01, "The recording".
 -- Assumes nothing.
-use Rattle.std.specs.Prelude.{ℕ, ◌/◌, Bool, cond, ◌&&◌, ◌||◌, List, length, get_or, eqb, ltb}
+use Rattle.std.specs.Prelude.{ℕ, Result, Ok, Err, ◌/◌, Bool, cond, ◌&&◌, ◌||◌, List, length, get_or, eqb, ltb}
 use Rattle.bits.specs.Bits.{word48, field, flag}
 use Rattle.header.specs.declared.Header.{Header}
-use Rattle.header.specs.declared.Parsed.{Parsed}
-use Rattle.header.specs.declared.Parsed.TheVariants.{Taken, Refused}
+use Rattle.refusals.specs.declared.Refusal.{Refusal}
+use Rattle.refusals.specs.Refusals.{refusal_of}
 use Rattle.header.specs.Bins.{bin_of}
 
 -- the first six bytes as one word
@@ -60,17 +60,15 @@ fields_refusal e w =
 unfoldable pub header_refusal : (e : ℕ) → List ℕ → ℕ
 header_refusal e bs = cond (eqb (length bs) 6) (fields_refusal e (header_word bs)) 1
 
--- the header, or its refusal: 01's number, and the values where it is 0
+-- the header, or the refusal that has the number of the first check that fails
+abbrev pub Parsed : Type 0
+Parsed = Result Header Refusal
+
 abbrev pub answer : (number : ℕ) → Header → Parsed
-answer n h = cond (eqb n 0) (Taken h) (Refused n)
+answer n h = cond (eqb n 0) (Ok h) (Err (refusal_of n))
 
 unfoldable pub fields_of : (e word : ℕ) → Parsed
 fields_of e w = answer (fields_refusal e w) (header_of w)
 
 unfoldable pub parsed_of : (e : ℕ) → List ℕ → Parsed
 parsed_of e bs = answer (header_refusal e bs) (header_of (header_word bs))
-
--- 01's number for each of the enum's cases
-abbrev pub number_of : Parsed → ℕ
-number_of (Taken h) = 0
-number_of (Refused n) = n

@@ -4,8 +4,7 @@
 use Rattle.std.specs.Prelude.{ℕ, List, ◌≡◌}
 use Rattle.units.specs.declared.Clocks.{Clocks}
 use Rattle.header.specs.declared.Header.{Header}
-use Rattle.header.specs.declared.Parsed.{Parsed}
-use Rattle.header.specs.Bytes.{edition_for, parsed_of}
+use Rattle.header.specs.Bytes.{Parsed, edition_for, parsed_of}
 
 -- `parse`
 abbrev pub Parse : (bytes : List ℕ) (edition : ℕ) (r : Parsed) → Type 0

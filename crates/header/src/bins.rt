@@ -2,7 +2,7 @@
 ghost use Rattle.std.specs.Prelude.{◌≡◌, ◌<◌};
 ghost use Rattle.header.specs.Bins.{bin_of, row_of, time_at};
 
-// A row a bin, in ps: t_rcd and t_rp, t_rc, t_ras, t_rrd of a 1K page and of a 2K page, t_faw of both, t_cke.
+// The form that 01 names, four bins by eight times, read by bin and page. A row a bin, in ps: t_rcd and t_rp, t_rc, t_ras, t_rrd of a 1K page and of a 2K page, t_faw of both, t_cke.
 const TIMES: [[u64; 8]; 4] = [
     [13125, 50625, 37500, 7500, 10000, 37500, 50000, 5625],
     [13125, 49500, 36000, 6000, 7500, 30000, 45000, 5625],

@@ -10,7 +10,7 @@ use units::Ps;
 
 #[derive(Clone, Copy)]
 pub struct Header {
-    // 0 to 3: 1066, 1333, 1600, 1866
+    // 0 to 3: 1066, 1333, 1600, 1866. A number: the methods answer for any, of which an enum would refuse some.
     pub bin: u8,
     // 2 Gb, else 1 Gb
     pub dense: bool,
@@ -18,11 +18,4 @@ pub struct Header {
     pub wide: bool,
     pub hot: bool,
     pub period: Ps,
-}
-
-// A header, or the number of the first check that fails.
-#[derive(Clone, Copy)]
-pub enum Parsed {
-    Taken(Header),
-    Refused(u8),
 }

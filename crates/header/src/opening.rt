@@ -3,19 +3,20 @@ ghost use Rattle.std.specs.Prelude.{◌≡◌};
 ghost use Rattle.header.specs.Bytes.{header_of, fields_of};
 ghost use Rattle.header.specs.Promises.{Parse, EditionFor};
 
+use crate::Header;
 use crate::bins::least;
-use crate::{Header, Parsed};
+use refusals::Refusal;
 use units::Ps;
 
 // edition: the one that is asked for.
-pub fn parse(bytes: &[u8], edition: u64) -> Parsed
+pub fn parse(bytes: &[u8], edition: u64) -> Result<Header, Refusal>
     ensures { Parse bytes.now edition result }
 {
     if bytes.len() != 6 {
-        return Parsed::Refused(1);
+        return Err(Refusal::HeaderLength);
     }
     fields(
-        bits::word(bytes[0], bytes[1], bytes[2], bytes[3], bytes[4], bytes[5]),
+        bits::word([bytes[0], bytes[1], bytes[2], bytes[3], bytes[4], bytes[5]]),
         edition,
     )
 }
@@ -47,25 +48,25 @@ fn header(w: u64) -> Header
     }
 }
 
-fn fields(w: u64, edition: u64) -> Parsed
+fn fields(w: u64, edition: u64) -> Result<Header, Refusal>
     ensures { result ≡ fields_of edition w }
 {
     let bin = (w / 4398046511104 % 4) as u8;
     let period = w / 16777216 % 4096;
     if w / 17592186044416 % 16 != edition {
-        return Parsed::Refused(2);
+        return Err(Refusal::Edition);
     }
     if w / 68719476736 % 8 != 0 {
-        return Parsed::Refused(3);
+        return Err(Refusal::ZeroField);
     }
     if w % 16777216 != 0 {
-        return Parsed::Refused(3);
+        return Err(Refusal::ZeroField);
     }
     if period < least(bin) {
-        return Parsed::Refused(4);
+        return Err(Refusal::Period);
     }
     if 3300 < period {
-        return Parsed::Refused(4);
+        return Err(Refusal::Period);
     }
-    Parsed::Taken(header(w))
+    Ok(header(w))
 }

@@ -14,8 +14,7 @@ use std::str;
 pub fn count(rt: &HostRuntime) -> usize {
     let mut none = [0u8; 0];
     for i in 0..usize::MAX {
-        let told = rt.arg(i, &mut none);
-        if let Err(FillError::NotPresent) = told {
+        if matches!(rt.arg(i, &mut none), Err(FillError::NotPresent)) {
             return i;
         }
     }
@@ -43,10 +42,8 @@ pub fn is(rt: &HostRuntime, i: usize, word: &[u8]) -> bool {
 pub fn open(rt: &HostRuntime, i: usize) -> Option<File> {
     let mut path = io::buffer();
     let n = read(rt, i, &mut path);
-    match str::from_utf8(&path[..n]) {
-        Ok(name) => File::open(rt, name).ok(),
-        Err(_) => None,
-    }
+    let name = str::from_utf8(&path[..n]).ok()?;
+    File::open(rt, name).ok()
 }
 
 // Reads until buf is full, the file ends or a read fails, and returns how many bytes it put at the start of buf; of no file none.
@@ -62,12 +59,10 @@ pub fn fill(file: &Option<File>, buf: &mut [u8]) -> usize
 
 // Does the file end here? A read that fails is no end.
 pub fn ends(file: &Option<File>) -> bool {
+    let Some(f) = file else {
+        return false;
+    };
     let mut next = [0u8; 1];
-    match file {
-        Some(f) => {
-            let mut reader: &File = f;
-            matches!(reader.read(&mut next), Ok(0))
-        }
-        None => false,
-    }
+    let mut reader: &File = f;
+    matches!(reader.read(&mut next), Ok(0))
 }

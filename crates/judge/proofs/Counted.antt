@@ -24,11 +24,13 @@ use Rattle.edges.specs.declared.Rank.{Rank}
 use Rattle.edges.specs.Step.{later_of, fold_of}
 use Rattle.edges.proofs.Ranging.{ranged}
 use Rattle.edges.proofs.Stopped.{fold-stopped}
-use Rattle.judge.specs.declared.Pair.{Pair}
-use Rattle.judge.specs.declared.Single.{Single}
-use Rattle.judge.specs.Pairs.{pair_of, rank_in, counted_of, Took, Fit, Able, Ready, Alone}
+use Rattle.judge.specs.Pairs.{Pair}
+use Rattle.judge.specs.Pairs.{Single}
+use Rattle.std.specs.Prelude.{None}
+use Rattle.judge.specs.declared.Pair.{Pair as Handed}
+use Rattle.judge.specs.Pairs.{begun, pair_as, counts_of, pair_of, rank_in, counted_of, Took, Fit, Able, Ready, Alone}
 use Rattle.judge.proofs.Folds.{fold_on}
-use Rattle.judge.proofs.Pairs.{same-zero, first-able, second-able, took-all}
+use Rattle.judge.proofs.Pairs.{same-zero, first-able, second-able, took-zero, took-all}
 
 rank-counted :
     (C : Chip) (second : Bool) (n : Rank) → (n.first.outcome ≡ 0 → ⊥) → (bs : List ℕ)
@@ -56,6 +58,16 @@ counted-took C p bs one two r e = record {
     zero : r.zero ≡ has_zero (records (narrow false bs))
     zero = ap (λ (q : Pair). q.zero) e ∙ ap has_zero (sym (records-narrow false bs))
 
+-- the same, where none is handed back at a step of 0
+pub counts-took :
+    (C : Chip) (p : Handed) (bs : List ℕ) → (p.one.first.outcome ≡ 0 → ⊥) → (p.two.first.outcome ≡ 0 → ⊥)
+    → (r : Pair) → r ≡ counts_of p bs → Took C (begun p) bs r
+counts-took C p bs one two r e = go (steps_seen (wides bs)).zero refl e
+  where
+    go : (x : Bool) → (steps_seen (wides bs)).zero ≡ x → r ≡ cond x (pair_as p None) (counted_of (begun p) bs) → Took C (begun p) bs r
+    go true z e = took-zero (ap (λ (q : Pair). q.zero) e) (ap has_zero (records-narrow false bs) ∙ z)
+    go false z e = counted-took C (begun p) bs one two r e
+
 -- by the tests of both
 pub both-broken : (m n : ℕ) → not (eqb m 0) && not (eqb n 0) ≡ true → (m ≡ 0 → ⊥) × (n ≡ 0 → ⊥)
 both-broken m n h =
@@ -77,6 +89,17 @@ module _ (bs : List ℕ) (eights : length bs % 8 ≡ 0) (s : Steps) (e : StepsIn
   counted_is p f one two a b =
       (λ i. pair_of s.zero (p.spare || s.spare) (a i) (b i))
       ∙ ap (λ (t : Steps). pair_of t.zero (p.spare || t.spare) (later_of p.one t.sum (length bs / 8)) (later_of p.two t.sum (length bs / 8))) (steps-are p.one f)
+
+  -- none is handed back at a step of 0
+  pub counts-zero : (p : Handed) → Fit p.one bs → s.zero ≡ true → pair_as p None ≡ counts_of p bs
+  counts-zero p f z = rw (sym (ap (λ (t : Steps). t.zero) (steps-are p.one f)) ∙ z) refl
+
+  pub counts_is :
+      (p : Handed) → Fit p.one bs → s.zero ≡ false → (one two : Rank) → one ≡ later_of p.one s.sum (length bs / 8) → two ≡ later_of p.two s.sum (length bs / 8)
+      → pair_of false (p.spare || s.spare) one two ≡ counts_of p bs
+  counts_is p f z one two a b =
+      ap (λ x. pair_of x (p.spare || s.spare) one two) (sym z) ∙ counted_is (begun p) f one two a b
+      ∙ rw (sym (ap (λ (t : Steps). t.zero) (steps-are p.one f)) ∙ z) refl
 
 -- ── A broken rank beside one that is judged ─────────────────────────────────────────────────
 

@@ -4,3 +4,4 @@ pub mod Counted
 pub mod Ranging
 pub mod Sections
 pub mod Answers
+pub mod Told

@@ -18,13 +18,20 @@ use Rattle.wide.proofs.Moving.{records-narrow, narrow-append, length-narrow}
 use Rattle.chip.specs.declared.Chip.{Chip}
 use Rattle.running.specs.Ranges.{limit, Small}
 use Rattle.edges.specs.declared.Rank.{Rank}
-use Rattle.edges.specs.declared.Folded.{Folded}
+use Rattle.std.specs.Prelude.{Option, None, Some}
+use Rattle.std.proofs.Common.{unwrap_or}
+use Rattle.edges.specs.Folded.{Folded, folded_as}
 use Rattle.edges.specs.Step.{fold_of}
 use Rattle.edges.specs.Ends.{taken_of}
 use Rattle.edges.proofs.Ranging.{taken-folds}
-use Rattle.judge.specs.declared.Pair.{Pair}
+use Rattle.judge.specs.Pairs.{Pair}
 use Rattle.judge.specs.Pairs.{pair_of, Took, Fit, Able, Ready}
 use Rattle.judge.proofs.Folds.{fold-append, zero_of, fold-kept}
+
+-- the rank that is handed back, or as it was
+pub rank-is : (s : Rank) (r : Option Rank) → (folded_as s r).rank ≡ unwrap_or r s
+rank-is s None = refl
+rank-is s (Some n) = refl
 
 -- ── Bytes as a rank sees them, in two parts ─────────────────────────────────────────────────
 

@@ -13,12 +13,12 @@ use Rattle.chip.specs.declared.Chip.{Chip}
 use Rattle.chip.specs.Chip.{chip_of}
 use Rattle.running.specs.Ranges.{limit}
 use Rattle.running.proofs.Ranging.{small}
-use Rattle.edges.specs.declared.Folded.{Folded}
+use Rattle.edges.specs.Folded.{Folded}
 use Rattle.edges.specs.Step.{fold_of}
 use Rattle.edges.specs.Ends.{taken_of}
 use Rattle.edges.proofs.Ranging.{taken-folds}
 use Rattle.judge.specs.declared.State.{State}
-use Rattle.judge.specs.declared.Pair.{Pair}
+use Rattle.judge.specs.Pairs.{Pair}
 use Rattle.judge.specs.Ranges.{in_range}
 use Rattle.judge.specs.Calls.{holding, refuse, take, section_of}
 use Rattle.judge.specs.Pairs.{begun_of, Took, Ready}

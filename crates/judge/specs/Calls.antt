@@ -2,9 +2,9 @@
 -- Assumes nothing.
 use Rattle.std.specs.Prelude.{ℕ, true, false, cond, ◌||◌, List, eqb, ltb}
 use Rattle.header.specs.declared.Header.{Header}
-use Rattle.header.specs.declared.Parsed.{Parsed}
-use Rattle.header.specs.declared.Parsed.TheVariants.{Taken as TakenHeader, Refused}
-use Rattle.header.specs.Bytes.{edition_for, parsed_of}
+use Rattle.std.specs.Prelude.{Ok, Err}
+use Rattle.refusals.specs.Refusals.{number_of}
+use Rattle.header.specs.Bytes.{Parsed, edition_for, parsed_of}
 use Rattle.answers.specs.declared.End.{End}
 use Rattle.answers.specs.declared.Verdict.{Verdict}
 use Rattle.records.specs.Record.{records}
@@ -13,37 +13,24 @@ use Rattle.chip.specs.Chip.{chip_of}
 use Rattle.running.specs.Said.{no_verdict}
 use Rattle.running.specs.Ranges.{last_edge}
 use Rattle.running.specs.Ends.{no_end}
-use Rattle.edges.specs.declared.Rank.{Rank}
 use Rattle.edges.specs.Step.{fold_of, so_far}
-use Rattle.edges.specs.Ends.{fresh_rank, start_rank, end_of, ended_of}
+use Rattle.edges.specs.Ends.{start_rank, end_of, ended_of}
 use Rattle.judge.specs.declared.State.{State}
-use Rattle.judge.specs.declared.Opened.{Opened}
-use Rattle.judge.specs.declared.Taken.{Taken}
-use Rattle.judge.specs.declared.Closed.{Closed}
+pub use Rattle.judge.specs.Answers.{OpenAnswer, SectionAnswer, CloseAnswer, holding, no_header, zeros, refuse, not_closed}
 use Rattle.judge.specs.Ranges.{in_range}
 
 -- ── Opening ─────────────────────────────────────────────────────────────────────────────────
-
-abbrev pub holding : Header → (edition : ℕ) → (one two : Rank) → State
-holding h e one two = record { header = h; edition = e; one = one; two = two }
 
 -- "At first all banks are idle and no wait runs"; "CKE is high before the first record"; "Refresh debt starts at 0"
 abbrev pub start_of : Header → (edition : ℕ) → State
 start_of h e = holding h e (start_rank (chip_of h)) (start_rank (chip_of h))
 
--- a refused opening hands out the state of zeros
-abbrev pub no_header : Header
-no_header = record { bin = 0; dense = false; wide = false; hot = false; period = record { ps = 0 } }
-
-abbrev pub zeros : State
-zeros = holding no_header 0 (fresh_rank false 0 0) (fresh_rank false 0 0)
-
 -- "Opening checks 1, 2, 3, 4": by the cases of the header's answer
-abbrev pub opened_by : (edition : ℕ) → Parsed → Opened
-opened_by e (TakenHeader h) = record { refused = 0; state = start_of h e }
-opened_by e (Refused n) = record { refused = n; state = zeros }
+abbrev pub opened_by : (edition : ℕ) → Parsed → OpenAnswer
+opened_by e (Ok h) = record { refused = 0; state = start_of h e }
+opened_by e (Err r) = record { refused = number_of r; state = zeros }
 
-unfoldable pub open_of : (header : List ℕ) → Opened
+unfoldable pub open_of : (header : List ℕ) → OpenAnswer
 open_of bytes = opened_by (edition_for bytes) (parsed_of (edition_for bytes) bytes)
 
 -- ── A section ───────────────────────────────────────────────────────────────────────────────
@@ -52,14 +39,10 @@ open_of bytes = opened_by (edition_for bytes) (parsed_of (edition_for bytes) byt
 abbrev pub of_second : {A : Type 0} → (edition : ℕ) → A → (none : A) → A
 of_second e x none = cond (eqb e 2) x none
 
--- "A refusal returns its number alone and the state unaltered"
-abbrev pub refuse : ℕ → State → Taken
-refuse n s = record { refused = n; state = s; verdict = no_verdict; second = no_verdict }
-
 abbrev pub second_verdict : State → Verdict
 second_verdict s = of_second s.edition (so_far s.two) no_verdict
 
-abbrev pub take : State → Taken
+abbrev pub take : State → SectionAnswer
 take s = record { refused = 0; state = s; verdict = so_far s.one; second = second_verdict s }
 
 -- the state after the records, as each rank sees them
@@ -70,21 +53,17 @@ folded s bs =
     (fold_of (chip_of s.header) s.two (records (view s.edition true bs)))
 
 -- taken or refused, by the number of the refusal
-abbrev pub taken_by : (refusal : ℕ) → State → (bytes : List ℕ) → Taken
+abbrev pub taken_by : (refusal : ℕ) → State → (bytes : List ℕ) → SectionAnswer
 taken_by n s bs = cond (eqb n 0) (take (folded s bs)) (refuse n s)
 
 -- "a section 17, 5, 7, 6, 14". "A section is taken or refused as one"
-unfoldable pub section_of : State → (bytes : List ℕ) → Taken
+unfoldable pub section_of : State → (bytes : List ℕ) → SectionAnswer
 section_of s bs = cond (in_range s) (taken_by (refusal s.edition s.one.count bs) s bs) (refuse 17 s)
 
 -- ── Closing ─────────────────────────────────────────────────────────────────────────────────
 
-abbrev pub closed : (first second : End) → Closed
+abbrev pub closed : (first second : End) → CloseAnswer
 closed x y = record { refused = 0; end = x; second = y }
-
--- "A refusal returns its number alone"
-abbrev pub not_closed : ℕ → Closed
-not_closed n = record { refused = n; end = no_end; second = no_end }
 
 abbrev pub second_end : State → (end : ℕ) → End
 second_end s t = of_second s.edition (end_of (chip_of s.header) s.two t) no_end
@@ -95,7 +74,7 @@ second_ended s t = of_second s.edition (ended_of (chip_of s.header) s.two t) no_
 
 -- "closing 17, 8"
 -- | 8 | end edge before the last record's, or above 2^44 |
-unfoldable pub close_of : State → (end : ℕ) → Closed
+unfoldable pub close_of : State → (end : ℕ) → CloseAnswer
 close_of s t =
     cond (in_range s)
     (cond (ltb t s.one.edge || ltb last_edge t) (not_closed 8) (closed (end_of (chip_of s.header) s.one t) (second_end s t)))

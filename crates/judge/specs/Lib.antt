@@ -1,4 +1,5 @@
 pub mod Ranges
+pub mod Answers
 pub mod Calls
 pub mod Pairs
 pub mod Promises

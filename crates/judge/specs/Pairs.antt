@@ -11,11 +11,32 @@ use Rattle.edges.specs.declared.Rank.{Rank}
 use Rattle.edges.specs.Step.{later_of, fold_of}
 use Rattle.edges.specs.Ranges.{rank_in_range}
 use Rattle.judge.specs.declared.State.{State}
-use Rattle.judge.specs.declared.Pair.{Pair}
-use Rattle.judge.specs.declared.Single.{Single}
+use Rattle.std.specs.Prelude.{Option, None, Some}
+use Rattle.judge.specs.declared.Pair.{Pair as Handed}
+use Rattle.judge.specs.declared.Single.{Single as HandedOne}
+
+-- both ranks, whether a step was 0, and whether zero bits were set
+pub record Pair : Type 0 where
+  pub zero : Bool
+  pub spare : Bool
+  pub one : Rank
+  pub two : Rank
+
+pub record Single : Type 0 where
+  pub zero : Bool
+  pub spare : Bool
+  pub rank : Rank
 
 abbrev pub pair_of : (zero spare : Bool) → (one two : Rank) → Pair
 pair_of zero spare one two = record { zero = zero; spare = spare; one = one; two = two }
+
+-- what was handed in, and what is handed back: none where a step is 0
+abbrev pub begun : Handed → Pair
+begun p = pair_of false p.spare p.one p.two
+
+abbrev pub pair_as : Handed → Option Handed → Pair
+pair_as p None = pair_of true p.spare p.one p.two
+pair_as p (Some q) = begun q
 
 -- before a section
 abbrev pub begun_of : State → Pair
@@ -41,12 +62,20 @@ counted_of p bs =
       two = later_of p.two s.sum (length bs / 8);
     }
 
+-- none of them, where a step is 0
+abbrev pub counts_of : Handed → (bytes : List ℕ) → Pair
+counts_of p bs = cond (steps_seen (wides bs)).zero (pair_as p None) (counted_of (begun p) bs)
+
 -- the first rank or the second
 abbrev pub rank_in : Pair → (second : Bool) → Rank
 rank_in p second = cond second p.two p.one
 
 abbrev pub single_of : (zero spare : Bool) → Rank → Single
 single_of zero spare n = record { zero = zero; spare = spare; rank = n }
+
+abbrev pub single_as : Rank → Option HandedOne → Single
+single_as n None = single_of true false n
+single_as n (Some r) = single_of false r.spare r.rank
 
 -- whether a step is 0, and if none is, what the section leads to
 pub record Took (C : Chip) (p : Pair) (bytes : List ℕ) (r : Pair) : Type 0 where

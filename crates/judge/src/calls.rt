@@ -1,14 +1,16 @@
 // Opening, a section, closing.
 ghost use Rattle.std.specs.Prelude.{true, ◌≡◌};
+ghost use Rattle.judge.specs.Answers.{opened_as, taken_as, closed_as};
 ghost use Rattle.judge.specs.Calls as calls;
 ghost use Rattle.judge.specs.Ranges as ranges;
-ghost use Rattle.judge.specs.Promises.{Open, Section, Close};
+ghost use Rattle.judge.specs.Promises.{Open, Unopened, Section, Close};
 
-use crate::ranks::{both, pair};
-use crate::{Closed, Opened, State, Taken};
+use crate::ranks::both;
+use crate::{Closed, Pair, State, Taken};
 use answers::{End, Verdict};
 use edges::Rank;
-use header::{Header, Parsed};
+use header::Header;
+use refusals::Refusal;
 use units::Ps;
 
 impl State {
@@ -16,29 +18,35 @@ impl State {
     pub const LIMIT: u64 = 1048576;
 
     // Checks 1, 2, 3, 4.
-    pub fn open(header: &[u8]) -> Opened
-        ensures { Open header.now result }
+    pub fn open(header: &[u8]) -> Result<State, Refusal>
+        ensures { Open header.now (opened_as result) }
     {
         let edition = header::edition_for(header);
-        let parsed = header::parse(header, edition);
-        match parsed {
-            Parsed::Taken(h) => Opened {
-                refused: 0,
-                state: start(h, edition),
-            },
-            Parsed::Refused(n) => Opened {
-                refused: n as u64,
-                state: zeros(),
-            },
-        }
+        let h = header::parse(header, edition)?;
+        Ok(start(h, edition))
+    }
+
+    // The state of no recording: each of its sections and its closing are refused by 17.
+    pub fn unopened() -> State
+        ensures { Unopened result }
+    {
+        let h = Header {
+            bin: 0,
+            dense: false,
+            wide: false,
+            hot: false,
+            period: Ps { ps: 0 },
+        };
+        let fresh = still::fresh(false, 0, 0);
+        holding(h, 0, fresh, fresh)
     }
 
     // Checks 17, 5, 7, 6, 14.
-    pub fn section(self, bytes: &[u8]) -> Taken
-        ensures { Section self bytes.now result }
+    pub fn section(self, bytes: &[u8]) -> Result<Taken, Refusal>
+        ensures { Section self bytes.now (taken_as self result) }
     {
         if !in_range(self) {
-            return refuse(17, self);
+            return Err(Refusal::State);
         }
         if self.edition == 2 {
             return of_two(self, bytes);
@@ -47,65 +55,62 @@ impl State {
     }
 
     // Checks 17, 8; then the verdict, the banks, the registers and the debt at the end edge.
-    pub fn close(self, end: u64) -> Closed
-        ensures { Close self end result }
+    pub fn close(self, end: u64) -> Result<Closed, Refusal>
+        ensures { Close self end (closed_as result) }
     {
         if !in_range(self) {
-            return not_closed(17);
+            return Err(Refusal::State);
         }
         if (end < self.one.edge) | (17592186044416 < end) {
-            return not_closed(8);
+            return Err(Refusal::EndEdge);
         }
-        let e = rank::end(chip::chip_of(self.header), self.one, end);
-        let second = second_end(self, end);
-        Closed {
-            refused: 0,
-            end: e,
-            second: second,
-        }
+        Ok(Closed {
+            end: rank::end(chip::chip_of(self.header), self.one, end),
+            second: second_end(self, end),
+        })
     }
 }
 
 // Edition 1: 5, 7, and 6 with the records, in one pass: a step of 0 leaves the rank as it was.
-fn of_one(s: State, bytes: &[u8]) -> Taken
+fn of_one(s: State, bytes: &[u8]) -> Result<Taken, Refusal>
     requires s_value { ranges.in_range s ≡ true }
     requires edition_value { s.edition ≡ 1 }
-    ensures { result ≡ calls.section_of s bytes.now }
+    ensures { taken_as s result ≡ calls.section_of s bytes.now }
 {
     if bytes.len() % 6 != 0 {
-        return refuse(5, s);
+        return Err(Refusal::CutShort);
     }
     if State::LIMIT < s.one.count as u64 + (bytes.len() / 6) as u64 {
-        return refuse(7, s);
+        return Err(Refusal::TooMany);
     }
-    let folded = rank::take(chip::chip_of(s.header), s.one, bytes);
-    if folded.zero {
-        return refuse(6, s);
+    match rank::take(chip::chip_of(s.header), s.one, bytes) {
+        None => Err(Refusal::ZeroStep),
+        Some(one) => Ok(taken(holding(s.header, s.edition, one, s.two))),
     }
-    taken(holding(s.header, s.edition, folded.rank, s.two))
 }
 
 // Edition 2: 5, 7, and 6 and 14 with the first rank's records; both ranks have the same steps.
-fn of_two(s: State, bytes: &[u8]) -> Taken
+fn of_two(s: State, bytes: &[u8]) -> Result<Taken, Refusal>
     requires s_value { ranges.in_range s ≡ true }
     requires edition_value { s.edition ≡ 2 }
-    ensures { result ≡ calls.section_of s bytes.now }
+    ensures { taken_as s result ≡ calls.section_of s bytes.now }
 {
     if bytes.len() % 8 != 0 {
-        return refuse(5, s);
+        return Err(Refusal::CutShort);
     }
     if State::LIMIT < s.one.count as u64 + (bytes.len() / 8) as u64 {
-        return refuse(7, s);
+        return Err(Refusal::TooMany);
     }
-    let start = pair(false, false, s.one, s.two);
-    let p = both(chip::chip_of(s.header), start, bytes);
-    if p.zero {
-        return refuse(6, s);
+    let start = Pair {
+        spare: false,
+        one: s.one,
+        two: s.two,
+    };
+    match both(chip::chip_of(s.header), start, bytes) {
+        None => Err(Refusal::ZeroStep),
+        Some(p) if p.spare => Err(Refusal::ZeroBits),
+        Some(p) => Ok(taken(holding(s.header, s.edition, p.one, p.two))),
     }
-    if p.spare {
-        return refuse(14, s);
-    }
-    taken(holding(s.header, s.edition, p.one, p.two))
 }
 
 // Check 17.
@@ -145,30 +150,13 @@ fn start(h: Header, edition: u64) -> State
     holding(h, edition, fresh, fresh)
 }
 
-fn zeros() -> State
-    ensures { result ≡ calls.zeros }
-{
-    let h = Header {
-        bin: 0,
-        dense: false,
-        wide: false,
-        hot: false,
-        period: Ps { ps: 0 },
-    };
-    let fresh = still::fresh(false, 0, 0);
-    holding(h, 0, fresh, fresh)
-}
-
 fn taken(s: State) -> Taken
-    ensures { result ≡ calls.take s }
+    ensures { taken_as s (Ok result) ≡ calls.take s }
 {
-    let verdict = still::so_far(s.one);
-    let second = second_verdict(s);
     Taken {
-        refused: 0,
         state: s,
-        verdict: verdict,
-        second: second,
+        verdict: still::so_far(s.one),
+        second: second_verdict(s),
     }
 }
 
@@ -188,27 +176,4 @@ fn second_end(s: State, end: u64) -> End
         return rank::end(chip::chip_of(s.header), s.two, end);
     }
     still::no_end()
-}
-
-fn refuse(n: u64, s: State) -> Taken
-    ensures { result ≡ calls.refuse n s }
-{
-    let none = says::none();
-    Taken {
-        refused: n,
-        state: s,
-        verdict: none,
-        second: none,
-    }
-}
-
-fn not_closed(n: u64) -> Closed
-    ensures { result ≡ calls.not_closed n }
-{
-    let e = still::no_end();
-    Closed {
-        refused: n,
-        end: e,
-        second: e,
-    }
 }

@@ -8,7 +8,7 @@ use answers::{End, Verdict};
 use edges::Rank;
 use header::Header;
 
-// edition: 1 or 2. two: the second rank; in edition 1 there is none, and it is as it was opened.
+// edition: 1 or 2; any other is refused by 17, so it is a number. two: the second rank; in edition 1 there is none, and it is as it was opened.
 #[derive(Clone, Copy)]
 pub struct State {
     pub header: Header,
@@ -17,17 +17,9 @@ pub struct State {
     pub two: Rank,
 }
 
-// refused is 0 or the number of the check that failed; then every other field is zero, or the state handed in.
-#[derive(Clone, Copy)]
-pub struct Opened {
-    pub refused: u64,
-    pub state: State,
-}
-
-// verdict, second: the verdicts so far of the first and of the second rank; in edition 1 the second is zero.
+// The state after a section, and the verdicts so far of the first and of the second rank; in edition 1 the second is zero.
 #[derive(Clone, Copy)]
 pub struct Taken {
-    pub refused: u64,
     pub state: State,
     pub verdict: Verdict,
     pub second: Verdict,
@@ -36,15 +28,13 @@ pub struct Taken {
 // end, second: of the first and of the second rank; in edition 1 the second is zero.
 #[derive(Clone, Copy)]
 pub struct Closed {
-    pub refused: u64,
     pub end: End,
     pub second: End,
 }
 
-// Both ranks in a section of edition 2, whether a step in it was 0, and whether zero bits were set.
+// Both ranks in a section of edition 2, and whether zero bits were set.
 #[derive(Clone, Copy)]
 struct Pair {
-    zero: bool,
     spare: bool,
     one: Rank,
     two: Rank,
@@ -53,7 +43,6 @@ struct Pair {
 // One rank in a section of edition 2, and the same.
 #[derive(Clone, Copy)]
 struct Single {
-    zero: bool,
     spare: bool,
     rank: Rank,
 }

@@ -11,9 +11,10 @@ use edges::Rank;
 // The bytes of 1,000 records.
 const PART: usize = 8000;
 
-pub(crate) fn both(chip: Chip, start: Pair, bytes: &[u8]) -> Pair
-    requires { pairs.Ready chip start bytes.now }
-    ensures { pairs.Took chip start bytes.now result }
+// None where a step is 0.
+pub(crate) fn both(chip: Chip, start: Pair, bytes: &[u8]) -> Option<Pair>
+    requires { pairs.Ready chip (pairs.begun start) bytes.now }
+    ensures { pairs.Took chip (pairs.begun start) bytes.now (pairs.pair_as start result) }
 {
     let one = start.one.first.outcome;
     let two = start.two.first.outcome;
@@ -29,17 +30,22 @@ pub(crate) fn both(chip: Chip, start: Pair, bytes: &[u8]) -> Pair
     in_parts(chip, start, bytes)
 }
 
-fn counted(start: Pair, bytes: &[u8]) -> Pair
+fn counted(start: Pair, bytes: &[u8]) -> Option<Pair>
     requires bytes_len { length bytes.now % 8 ≡ 0 }
     requires fit { pairs.Fit start.one bytes.now }
     requires fit_2 { pairs.Fit start.two bytes.now }
-    ensures { result ≡ pairs.counted_of start bytes.now }
+    ensures { pairs.pair_as start result ≡ pairs.counts_of start bytes.now }
 {
     let steps = wide::steps_in(bytes);
+    if steps.zero {
+        return None;
+    }
     let records = (bytes.len() / 8) as u32;
-    let one = later(start.one, steps.sum, records);
-    let two = later(start.two, steps.sum, records);
-    pair(steps.zero, start.spare | steps.spare, one, two)
+    Some(Pair {
+        spare: start.spare | steps.spare,
+        one: later(start.one, steps.sum, records),
+        two: later(start.two, steps.sum, records),
+    })
 }
 
 fn later(n: Rank, steps: u64, records: u32) -> Rank
@@ -54,29 +60,34 @@ fn later(n: Rank, steps: u64, records: u32) -> Rank
 }
 
 // second: the rank that is judged. The other is broken, and goes on as far.
-fn beside(chip: Chip, start: Pair, second: bool, bytes: &[u8]) -> Pair
-    requires ready { pairs.Ready chip start bytes.now }
-    requires fact { (pairs.rank_in start (not second)).first.outcome ≡ 0 → ⊥ }
-    ensures { pairs.Took chip start bytes.now result }
+fn beside(chip: Chip, start: Pair, second: bool, bytes: &[u8]) -> Option<Pair>
+    requires ready { pairs.Ready chip (pairs.begun start) bytes.now }
+    requires fact { (pairs.rank_in (pairs.begun start) (not second)).first.outcome ≡ 0 → ⊥ }
+    ensures { pairs.Took chip (pairs.begun start) bytes.now (pairs.pair_as start result) }
 {
     let judged = rank_in(start, second);
     let other = rank_in(start, !second);
-    let r = alone(chip, judged, second, bytes);
+    let r = alone(chip, judged, second, bytes)?;
     let spare = start.spare | r.spare;
     let after = r.rank;
-    if r.zero {
-        return pair(true, spare, after, other);
-    }
     let records = (bytes.len() / 8) as u32;
     let on = later(other, after.edge - judged.edge, records);
     if second {
-        return pair(false, spare, on, after);
+        return Some(Pair {
+            spare,
+            one: on,
+            two: after,
+        });
     }
-    pair(false, spare, after, on)
+    Some(Pair {
+        spare,
+        one: after,
+        two: on,
+    })
 }
 
 fn rank_in(p: Pair, second: bool) -> Rank
-    ensures { result ≡ pairs.rank_in p second }
+    ensures { result ≡ pairs.rank_in (pairs.begun p) second }
 {
     if second {
         return p.two;
@@ -84,9 +95,10 @@ fn rank_in(p: Pair, second: bool) -> Rank
     p.one
 }
 
-fn alone(chip: Chip, n: Rank, second: bool, bytes: &[u8]) -> Single
+// None where a step is 0.
+fn alone(chip: Chip, n: Rank, second: bool, bytes: &[u8]) -> Option<Single>
     requires { pairs.Able chip n bytes.now }
-    ensures { pairs.Alone chip second n bytes.now result }
+    ensures { pairs.Alone chip second n bytes.now (pairs.single_as n result) }
 {
     let mut view = [0u8; 6000];
     let mut m = n;
@@ -95,30 +107,16 @@ fn alone(chip: Chip, n: Rank, second: bool, bytes: &[u8]) -> Single
     while at < bytes.len() {
         let part = wide::narrow_part(bytes, at, second, &mut view);
         spare = spare | part.spare;
-        let a = rank::take(chip, m, &view[..part.len]);
-        if a.zero {
-            return single(true, spare, m);
-        }
-        m = a.rank;
+        m = rank::take(chip, m, &view[..part.len])?;
         at += PART;
     }
-    single(false, spare, m)
-}
-
-fn single(zero: bool, spare: bool, n: Rank) -> Single
-    ensures { result ≡ pairs.single_of zero spare n }
-{
-    Single {
-        zero: zero,
-        spare: spare,
-        rank: n,
-    }
+    Some(Single { spare, rank: m })
 }
 
 // Both ranks have the same steps: where the first has met no step of 0, neither has the second.
-fn in_parts(chip: Chip, start: Pair, bytes: &[u8]) -> Pair
-    requires { pairs.Ready chip start bytes.now }
-    ensures { pairs.Took chip start bytes.now result }
+fn in_parts(chip: Chip, start: Pair, bytes: &[u8]) -> Option<Pair>
+    requires { pairs.Ready chip (pairs.begun start) bytes.now }
+    ensures { pairs.Took chip (pairs.begun start) bytes.now (pairs.pair_as start result) }
 {
     let mut first = [0u8; 6000];
     let mut second = [0u8; 6000];
@@ -129,25 +127,13 @@ fn in_parts(chip: Chip, start: Pair, bytes: &[u8]) -> Pair
     while at < bytes.len() {
         let part = wide::split_part(bytes, at, &mut first, &mut second);
         spare = spare | part.spare;
-        let a = rank::take(chip, one, &first[..part.len]);
-        if a.zero {
-            return pair(true, spare, one, two);
-        }
-        one = a.rank;
-        let b = rank::take(chip, two, &second[..part.len]);
-        two = b.rank;
+        one = rank::take(chip, one, &first[..part.len])?;
+        two = rank::take(chip, two, &second[..part.len]).unwrap_or(two);
         at += PART;
     }
-    pair(false, start.spare | spare, one, two)
-}
-
-pub(crate) fn pair(zero: bool, spare: bool, one: Rank, two: Rank) -> Pair
-    ensures { result ≡ pairs.pair_of zero spare one two }
-{
-    Pair {
-        zero: zero,
-        spare: spare,
-        one: one,
-        two: two,
-    }
+    Some(Pair {
+        spare: start.spare | spare,
+        one,
+        two,
+    })
 }

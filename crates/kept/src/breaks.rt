@@ -1,13 +1,13 @@
 // What a record breaks: rules 1 to 23, the lowest first, from what is kept.
 ghost use Rattle.std.specs.Prelude.{◌≡◌};
 ghost use Rattle.running.specs.Breaks as breaks;
+ghost use Rattle.kept.specs.Wants.{number_of};
 ghost use Rattle.kept.specs.Promises.{OrElse, SpeaksOfAll, Barred, FirstBarred, Rule3, Joined};
 
 use crate::bank::status;
 use answers::{Bank, Break};
 use chip::Chip;
 use records::{Command, Record};
-use registers::Decoded;
 use running::{Kept, Written};
 
 pub fn or_else(a: Break, b: Break) -> Break
@@ -15,24 +15,14 @@ pub fn or_else(a: Break, b: Break) -> Break
 {
     match a {
         Break::Fine => b,
-        Break::Broken {
-            rule,
-            partner,
-            needed,
-            found,
-        } => Break::Broken {
-            rule,
-            partner,
-            needed,
-            found,
-        },
+        Break::Broken { .. } => a,
     }
 }
 
 fn rule1(c: Command) -> Break
     ensures { result ≡ breaks.rule1 c }
 {
-    if records::rank_of(c) == 12 {
+    if c == Command::Bad {
         return Break::Broken {
             rule: 1,
             partner: 0,
@@ -47,40 +37,45 @@ fn rule1(c: Command) -> Break
 pub fn speaks_of_all(c: Command, r: Record) -> bool
     ensures { SpeaksOfAll c r result }
 {
-    let k = records::rank_of(c);
-    ((k == 2) & (r.a / 1024 % 2 == 1)) | ((k == 1) | ((k == 0) | ((k == 6) | (k == 9))))
+    let pre = c == Command::Pre;
+    let held = (c == Command::Zq) | (c == Command::Sre);
+    let rest = (c == Command::Ref) | ((c == Command::Mrs) | held);
+    (pre & (r.a / 1024 % 2 == 1)) | rest
 }
 
-// What the command wants of a bank: 0 nothing, 1 idle, 2 open and not closing, 3 not closing.
-fn wants(c: Command) -> u64
-    ensures { result ≡ breaks.wants c }
+// What a command wants of a bank; Open is not closing.
+#[derive(Clone, Copy)]
+enum Want {
+    Nothing,
+    Idle,
+    Open,
+    NotClosing,
+}
+
+fn wants(c: Command) -> Want
+    ensures { number_of result ≡ breaks.wants c }
 {
     match c {
-        Command::Mrs => 1,
-        Command::Ref => 1,
-        Command::Pre => 3,
-        Command::Act => 1,
-        Command::Wr => 2,
-        Command::Rd => 2,
-        Command::Zq => 1,
-        Command::Nop => 0,
-        Command::Des => 0,
-        Command::Sre => 1,
-        Command::Srx => 0,
-        Command::Low => 0,
-        Command::Bad => 0,
-        Command::Pde => 0,
-        Command::Pdx => 0,
+        Command::Mrs | Command::Ref | Command::Act | Command::Zq | Command::Sre => Want::Idle,
+        Command::Wr | Command::Rd => Want::Open,
+        Command::Pre => Want::NotClosing,
+        Command::Nop
+        | Command::Des
+        | Command::Srx
+        | Command::Low
+        | Command::Bad
+        | Command::Pde
+        | Command::Pdx => Want::Nothing,
     }
 }
 
-fn barred_by(w: u64, k: Bank) -> Break
-    ensures { result ≡ breaks.barred_by w k }
+fn barred_by(w: Want, k: Bank) -> Break
+    ensures { result ≡ breaks.barred_by (number_of w) k }
 {
     match k {
-        Bank::Idle => two_if(w == 2, 0),
-        Bank::Open { at: _, num, row: _ } => two_if(w == 1, num),
-        Bank::Closing { at: _, num, row: _ } => two_if(!(w == 0), num),
+        Bank::Idle => two_if(matches!(w, Want::Open), 0),
+        Bank::Open { num, .. } => two_if(matches!(w, Want::Idle), num),
+        Bank::Closing { num, .. } => two_if(!matches!(w, Want::Nothing), num),
     }
 }
 
@@ -109,14 +104,11 @@ pub fn barred(c: Command, k: Kept, e: u64) -> Break
 pub fn first_barred(c: Command, banks: [Kept; 8], e: u64) -> Break
     ensures { FirstBarred c banks e result }
 {
-    let b0 = barred(c, banks[0], e);
-    let b1 = or_else(b0, barred(c, banks[1], e));
-    let b2 = or_else(b1, barred(c, banks[2], e));
-    let b3 = or_else(b2, barred(c, banks[3], e));
-    let b4 = or_else(b3, barred(c, banks[4], e));
-    let b5 = or_else(b4, barred(c, banks[5], e));
-    let b6 = or_else(b5, barred(c, banks[6], e));
-    or_else(b6, barred(c, banks[7], e))
+    let mut first = Break::Fine;
+    for &k in &banks {
+        first = or_else(first, barred(c, k, e));
+    }
+    first
 }
 
 fn three_if(fine: bool) -> Break
@@ -136,14 +128,13 @@ fn three_if(fine: bool) -> Break
 pub fn rule3(chip: Chip, c: Command, r: Record, w: Written) -> Break
     ensures { Rule3 chip c r w result }
 {
-    let k = records::rank_of(c);
-    if k == 0 {
+    if c == Command::Mrs {
         return mrs_allowed(chip, r);
     }
-    if k == 3 {
+    if c == Command::Act {
         return three_if(w.w0 & (w.w1 & (w.w2 & w.w3)));
     }
-    if k == 5 {
+    if c == Command::Rd {
         return three_if(w.dll);
     }
     Break::Fine
@@ -155,14 +146,13 @@ fn mrs_allowed(chip: Chip, r: Record) -> Break
 {
     let h = chip.header;
     let b = r.bank % 8;
-    let decoded = registers::decode(h, b as u32, r.a);
-    match decoded {
-        Decoded::Register(v) => Break::Fine,
-        Decoded::Bit(bit) => Break::Broken {
+    match registers::decode(h, b as u32, r.a) {
+        Ok(_) => Break::Fine,
+        Err(bad) => Break::Broken {
             rule: 3,
             partner: 0,
             needed: 0,
-            found: bit as u64,
+            found: bad.bit as u64,
         },
     }
 }

@@ -19,42 +19,10 @@ fn later_of(a: Break, b: Break) -> Break
 {
     match a {
         Break::Fine => b,
-        Break::Broken {
-            rule,
-            partner,
-            needed,
-            found,
-        } => later_than(rule, partner, needed, found, b),
-    }
-}
-
-fn later_than(k: u64, n: u64, m: u64, f: u64, b: Break) -> Break
-    ensures { result ≡ down.later_of (Broken k n m f) b }
-{
-    match b {
-        Break::Fine => broken(k, n, m, f),
-        Break::Broken {
-            rule,
-            partner,
-            needed,
-            found,
-        } => {
-            if n < partner {
-                return broken(rule, partner, needed, found);
-            }
-            broken(k, n, m, f)
-        }
-    }
-}
-
-fn broken(k: u64, n: u64, m: u64, f: u64) -> Break
-    ensures { result ≡ Broken k n m f }
-{
-    Break::Broken {
-        rule: k,
-        partner: n,
-        needed: m,
-        found: f,
+        Break::Broken { partner: n, .. } => match b {
+            Break::Broken { partner: m, .. } if n < m => b,
+            _ => a,
+        },
     }
 }
 
@@ -116,29 +84,26 @@ fn wrote(g: Regs, m: Mark, k: Kept, e: u64) -> Break
 fn all_wrote(g: Regs, m: Mark, banks: [Kept; 8], e: u64) -> Break
     ensures { result ≡ down.latest_of (λ b. down.check26 e (down.entry_write g m (get_or banks b empty))) 8 }
 {
-    let b0 = wrote(g, m, banks[0], e);
-    let b1 = later_of(b0, wrote(g, m, banks[1], e));
-    let b2 = later_of(b1, wrote(g, m, banks[2], e));
-    let b3 = later_of(b2, wrote(g, m, banks[3], e));
-    let b4 = later_of(b3, wrote(g, m, banks[4], e));
-    let b5 = later_of(b4, wrote(g, m, banks[5], e));
-    let b6 = later_of(b5, wrote(g, m, banks[6], e));
-    later_of(b6, wrote(g, m, banks[7], e))
+    let mut latest = Break::Fine;
+    for &k in &banks {
+        latest = later_of(latest, wrote(g, m, k, e));
+    }
+    latest
 }
 
 // Power-down entry: the latest RD, WR of each bank and MRS, of those that break it the latest.
 pub fn rule26(chip: Chip, c: Command, banks: [Kept; 8], s: Shared, e: u64) -> Break
     ensures { Rule26 chip c banks s e result }
 {
-    if records::rank_of(c) != 13 {
-        return Break::Fine;
+    if c == Command::Pde {
+        let g = s.regs;
+        let m = s.mrs;
+        let w = all_wrote(g, m, banks, e);
+        let r = spaced(26, e, entry_read(g, m, s.read), Break::Fine);
+        let set = spaced(26, e, needing(chip.tmod, m), Break::Fine);
+        return later_of(w, later_of(r, set));
     }
-    let g = s.regs;
-    let m = s.mrs;
-    let w = all_wrote(g, m, banks, e);
-    let r = spaced(26, e, entry_read(g, m, s.read), Break::Fine);
-    let set = spaced(26, e, needing(chip.tmod, m), Break::Fine);
-    later_of(w, later_of(r, set))
+    Break::Fine
 }
 
 // changes: CKE changes at the record.
@@ -156,21 +121,21 @@ pub fn exit_rules(c: Command, e: u64, s: Shared) -> Break
     ensures { ExitRules c e s result }
 {
     match c {
-        Command::Mrs => of_left(e, s),
-        Command::Ref => of_left(e, s),
-        Command::Pre => of_left(e, s),
-        Command::Act => of_left(e, s),
-        Command::Wr => of_left(e, s),
+        Command::Mrs
+        | Command::Ref
+        | Command::Pre
+        | Command::Act
+        | Command::Wr
+        | Command::Zq
+        | Command::Sre => of_left(e, s),
         Command::Rd => spaced(29, e, s.rests.left, of_slow(e, s)),
-        Command::Zq => of_left(e, s),
-        Command::Nop => Break::Fine,
-        Command::Des => Break::Fine,
-        Command::Sre => of_left(e, s),
-        Command::Srx => Break::Fine,
-        Command::Low => Break::Fine,
-        Command::Bad => Break::Fine,
-        Command::Pde => Break::Fine,
-        Command::Pdx => Break::Fine,
+        Command::Nop
+        | Command::Des
+        | Command::Srx
+        | Command::Low
+        | Command::Bad
+        | Command::Pde
+        | Command::Pdx => Break::Fine,
     }
 }
 

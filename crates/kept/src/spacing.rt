@@ -17,20 +17,15 @@ pub fn spacings(chip: Chip, c: Command, r: Record, e: u64, k: Kept, s: Shared) -
 {
     match c {
         Command::Mrs => of_mrs(chip, r, e, k, s),
-        Command::Ref => of_ref(chip, r, e, k, s),
+        Command::Ref | Command::Zq => of_ref(chip, r, e, k, s),
         Command::Pre => of_pre(chip, r, e, k, s),
         Command::Act => of_act(chip, r, e, k, s),
         Command::Wr => of_wr(chip, r, e, k, s),
         Command::Rd => of_rd(chip, r, e, k, s),
-        Command::Zq => of_ref(chip, r, e, k, s),
-        Command::Nop => Break::Fine,
-        Command::Des => Break::Fine,
         Command::Sre => of_sre(chip, r, e, k, s),
         Command::Srx => of_srx(e, s),
-        Command::Low => Break::Fine,
-        Command::Bad => Break::Fine,
-        Command::Pde => Break::Fine,
-        Command::Pdx => Break::Fine,
+        Command::Nop | Command::Des | Command::Low | Command::Bad | Command::Pde | Command::Pdx =>
+            Break::Fine,
     }
 }
 
@@ -64,8 +59,8 @@ fn of_rd(chip: Chip, r: Record, e: u64, k: Kept, s: Shared) -> Break
     let b18 = spaced(18, e, s.rests.tuned, b20);
     let b17 = spaced(17, e, needing(chip.tmod, s.mrs), b18);
     let b15 = spaced(15, e, s.rests.refreshed, b17);
-    let b14 = spaced(14, e, as14(s.wrote), b15);
-    let b12 = spaced(12, e, needing(4, as10(s.read)), b14);
+    let b14 = spaced(14, e, wrote_mark(s.wrote, s.wrote.n14), b15);
+    let b12 = spaced(12, e, needing(4, read_mark(s.read, s.read.n10)), b14);
     spaced(4, e, k.acted, b12)
 }
 
@@ -73,8 +68,8 @@ fn of_wr(chip: Chip, r: Record, e: u64, k: Kept, s: Shared) -> Break
     ensures { result ≡ breaks.spacings chip Wr r e k s }
 {
     let b15 = waits(chip, e, s, Break::Fine);
-    let b13 = spaced(13, e, as13(s.read), b15);
-    let b12 = spaced(12, e, needing(4, as11(s.wrote)), b13);
+    let b13 = spaced(13, e, read_mark(s.read, s.read.n13), b15);
+    let b12 = spaced(12, e, needing(4, wrote_mark(s.wrote, s.wrote.n11)), b13);
     spaced(4, e, k.acted, b12)
 }
 
@@ -84,8 +79,8 @@ fn of_pre(chip: Chip, r: Record, e: u64, k: Kept, s: Shared) -> Break
     let a0 = s.acts[0];
     let b15 = waits(chip, e, s, Break::Fine);
     if r.a / 1024 % 2 == 1 {
-        let b11 = spaced(11, e, as11(s.wrote), b15);
-        let b10 = spaced(10, e, as10(s.read), b11);
+        let b11 = spaced(11, e, wrote_mark(s.wrote, s.wrote.n11), b15);
+        let b10 = spaced(10, e, read_mark(s.read, s.read.n10), b11);
         return spaced(9, e, a0, b10);
     }
     let b11 = spaced(11, e, k.wrote, b15);
@@ -105,7 +100,7 @@ fn of_mrs(chip: Chip, r: Record, e: u64, k: Kept, s: Shared) -> Break
     ensures { result ≡ breaks.spacings chip Mrs r e k s }
 {
     let b21 = spaced(21, e, s.rests.woke, Break::Fine);
-    let b19 = spaced(19, e, as19(s.read), b21);
+    let b19 = spaced(19, e, read_mark(s.read, s.read.n19), b21);
     let b18 = spaced(18, e, s.rests.tuned, b19);
     let b16 = spaced(16, e, s.mrs, b18);
     let b15 = spaced(15, e, s.rests.refreshed, b16);
@@ -117,7 +112,7 @@ fn of_sre(chip: Chip, r: Record, e: u64, k: Kept, s: Shared) -> Break
 {
     let b23 = rule23(s);
     let b21 = spaced(21, e, s.rests.woke, b23);
-    let b19 = spaced(19, e, as19(s.read), b21);
+    let b19 = spaced(19, e, read_mark(s.read, s.read.n19), b21);
     let b18 = spaced(18, e, s.rests.tuned, b19);
     let b17 = spaced(17, e, needing(chip.tmod, s.mrs), b18);
     let b15 = spaced(15, e, s.rests.refreshed, b17);
@@ -128,11 +123,10 @@ fn of_sre(chip: Chip, r: Record, e: u64, k: Kept, s: Shared) -> Break
 pub fn last_rules(c: Command, e: u64, s: Shared) -> Break
     ensures { LastRules c e s result }
 {
-    let k = records::rank_of(c);
-    if k == 10 {
+    if c == Command::Srx {
         return of_srx(e, s);
     }
-    if k == 9 {
+    if c == Command::Sre {
         return rule23(s);
     }
     Break::Fine
@@ -165,52 +159,24 @@ fn wide(x: u32) -> u64
     x as u64
 }
 
-fn as10(s: Read) -> Mark
-    ensures { result ≡ marks.as10 s }
+// The latest RD of all banks, of which a rule needs so many clocks.
+fn read_mark(s: Read, need: u32) -> Mark
+    ensures { result ≡ record { at = s.at; num = s.num; need = need } }
 {
     Mark {
         at: s.at,
         num: s.num,
-        need: s.n10,
+        need,
     }
 }
 
-fn as13(s: Read) -> Mark
-    ensures { result ≡ marks.as13 s }
+// The latest WR of all banks.
+fn wrote_mark(s: Wrote, need: u32) -> Mark
+    ensures { result ≡ record { at = s.at; num = s.num; need = need } }
 {
     Mark {
         at: s.at,
         num: s.num,
-        need: s.n13,
-    }
-}
-
-fn as19(s: Read) -> Mark
-    ensures { result ≡ marks.as19 s }
-{
-    Mark {
-        at: s.at,
-        num: s.num,
-        need: s.n19,
-    }
-}
-
-fn as11(s: Wrote) -> Mark
-    ensures { result ≡ marks.as11 s }
-{
-    Mark {
-        at: s.at,
-        num: s.num,
-        need: s.n11,
-    }
-}
-
-fn as14(s: Wrote) -> Mark
-    ensures { result ≡ marks.as14 s }
-{
-    Mark {
-        at: s.at,
-        num: s.num,
-        need: s.n14,
+        need,
     }
 }

@@ -1,49 +1,51 @@
 // The records of a list, each sought by its number in section after section of the files; and how many stand before an edge.
 use crate::text::{hex, value};
 use crate::values::listed;
+use crate::view::{Rank, SECTION, View};
 use crate::{eights, values};
 use std::fs::File;
-use tally::{Placed, Sought, Spot};
+use tally::{Placed, Spot};
 
 // The first file's place among the arguments.
 const FIRST: usize = 5;
 
-// The number that was listed last, the list's last, where the walk over the files stands, the lot's edition, and which rank sees the records.
+// What is sought: the records of these numbers as a rank sees them, and how many stand before the edge `limit`.
+#[derive(Clone, Copy)]
+pub(crate) struct List {
+    pub(crate) from: u64,
+    pub(crate) to: u64,
+    pub(crate) limit: u64,
+    pub(crate) rank: Rank,
+}
+
+// The number that was listed last, the list's last, where the walk over the files stands, and how its records are seen.
 #[derive(Clone, Copy)]
 struct Search {
     last: u64,
     to: u64,
     spot: Spot,
-    edition: u64,
-    second: bool,
+    view: View,
 }
 
-pub(crate) fn list(rt: &HostRuntime, from: u64, to: u64, limit: u64, second: bool, end: usize) {
+// Records count from 1.
+pub(crate) fn run(rt: &HostRuntime, l: List, end: usize) {
     let start = Search {
-        last: number_before(from),
-        to: to,
-        spot: Spot::start(limit),
-        edition: 1,
-        second: second,
+        last: l.from.saturating_sub(1),
+        to: l.to,
+        spot: Spot::start(l.limit),
+        view: View {
+            edition: 1,
+            rank: l.rank,
+        },
     };
     let s = files(rt, start, end);
     value(b"records_before", s.spot.reached.before);
 }
 
-// Records count from 1.
-fn number_before(n: u64) -> u64 {
-    if n == 0 {
-        return 0;
-    }
-    n - 1
-}
-
 fn files(rt: &HostRuntime, start: Search, end: usize) -> Search {
     let mut s = start;
-    let mut i = FIRST;
-    while i < end {
+    for i in FIRST..end {
         s = file(rt, s, i, i == FIRST);
-        i += 1;
     }
     s
 }
@@ -57,7 +59,7 @@ fn file(rt: &HostRuntime, s: Search, i: usize, headed: bool) -> Search {
         return n;
     }
     if headed {
-        n.edition = header_edition(&file);
+        n.view.edition = header_edition(&file);
     }
     sections(n, &file)
 }
@@ -67,82 +69,54 @@ fn header_edition(file: &Option<File>) -> u64 {
     let mut header = [0u8; 6];
     let k = inputs::fill(file, &mut header);
     let edition = header::edition_for(&header[..k]);
-    if edition == 2 {
-        values::edition(edition);
-    }
+    values::edition(edition);
     edition
 }
 
+// Section after section, to one with no record more. Nothing says that a file ends, so the turns have a bound that no run comes to.
 fn sections(start: Search, file: &Option<File>) -> Search {
     let mut s = start;
-    let mut turns = u64::MAX;
-    while turns > 0 {
+    for _ in 0..u64::MAX {
         let before = s.spot.at;
         s = section(s, file);
         if s.spot.at == before {
-            return s;
+            break;
         }
-        turns -= 1;
     }
     s
 }
 
 fn section(s: Search, file: &Option<File>) -> Search {
-    let mut space = [0u8; 6000];
+    let mut space = [0u8; SECTION];
+    let mut narrow = [0u8; SECTION];
     let k = inputs::fill(file, &mut space);
-    let mut n = all(s, &space[..k]);
-    n.spot = passed(s, &space[..k]);
+    let bytes = &space[..k];
+    let seen = s.view.of(bytes, &mut narrow);
+    let mut n = s;
+    n.last = all(s, seen, bytes);
+    n.spot = s.spot.passed(seen);
     n
 }
 
-fn passed(s: Search, bytes: &[u8]) -> Spot {
-    let spot = s.spot;
-    if s.edition == 2 {
-        return eights::passed(spot, s.second, bytes);
+// Lists what the section has of the numbers that are left, and answers which was listed last.
+fn all(s: Search, seen: &[u8], bytes: &[u8]) -> u64 {
+    for n in s.last..s.to {
+        let Some(p) = s.spot.find(n + 1, seen) else {
+            return n;
+        };
+        told(s, p, bytes);
     }
-    spot.passed(bytes)
-}
-
-// Lists what the section has of the numbers that are left.
-fn all(start: Search, bytes: &[u8]) -> Search {
-    let mut s = start;
-    while s.last < s.to {
-        let n = s.last + 1;
-        if !one(s, n, bytes) {
-            return s;
-        }
-        s.last = n;
-    }
-    s
-}
-
-fn one(s: Search, n: u64, bytes: &[u8]) -> bool {
-    let sought = find(s, n, bytes);
-    match sought {
-        Sought::Here(p) => {
-            told(s, p, bytes);
-            true
-        }
-        Sought::Elsewhere => false,
-    }
-}
-
-fn find(s: Search, n: u64, bytes: &[u8]) -> Sought {
-    let spot = s.spot;
-    if s.edition == 2 {
-        return eights::find(spot, n, s.second, bytes);
-    }
-    spot.find(n, bytes)
+    s.last.max(s.to)
 }
 
 // In edition 2 the walk counts six bytes a record too: the place is worked out from that, and the record's own bytes are shown.
 fn told(s: Search, p: Placed, bytes: &[u8]) {
-    if s.edition != 2 {
+    if s.view.edition != 2 {
         listed(p, p.at);
         hex(b"list_bytes ", p.word, 12);
         return;
     }
     listed(p, eights::place(p.file == 1, p.at));
-    let at = eights::distance(std::num::wrapping_sub_u64(p.at, s.spot.at));
+    let at = eights::distance(p.at.wrapping_sub(s.spot.at));
     eights::tell(bytes, at as usize);
 }

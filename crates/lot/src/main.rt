@@ -5,67 +5,61 @@
 // A file that cannot be judged ends it with the reason. A program has no exit status to set.
 #![tactic(auto)]
 
+mod calls;
 mod eights;
 mod find;
 mod reading;
 mod text;
+mod trouble;
 mod values;
+mod view;
 
+use find::List;
 use judge::State;
+use refusals::Refusal;
 use tally::Tally;
+use trouble::{Trouble, Why};
+use view::Rank;
 
-// Where the reading stands: the file's number, the byte of it that comes next, the count and the edge at its start, and whether it begins with
-// a header of its own. more: there may be more of the file. stopped: a file could not be judged, and there is no verdict.
-#[derive(Clone, Copy)]
-struct Place {
-    file: usize,
-    at: u64,
-    count: u64,
-    edge: u64,
-    headed: bool,
-    more: bool,
-    stopped: bool,
-}
-
-// What the files so far have led to. header: the six bytes of the lot's header. two: of the second rank; in edition 1 nothing is counted there.
+// What the files so far have led to. header: the six bytes of the lot's header. two: of the second rank, in edition 2.
 #[derive(Clone, Copy)]
 struct Lot {
-    place: Place,
     header: [u8; 6],
     state: State,
     one: Tally,
-    two: Tally,
+    two: Option<Tally>,
 }
 
 fn main(rt: HostRuntime) {
     let end = inputs::count(&rt);
-    if inputs::is(&rt, 1, b"--list") {
-        find::list(
-            &rt,
-            number_at(&rt, 2),
-            number_at(&rt, 3),
-            number_at(&rt, 4),
-            false,
-            end,
-        );
-        return;
-    }
-    if inputs::is(&rt, 1, b"--second") {
-        find::list(
-            &rt,
-            number_at(&rt, 2),
-            number_at(&rt, 3),
-            number_at(&rt, 4),
-            true,
-            end,
-        );
+    if let Some(rank) = listed_of(&rt) {
+        find::run(&rt, sought(&rt, rank), end);
         return;
     }
     if end <= 1 {
         text::put(b"usage: lot [--list FROM TO EDGE | --second FROM TO EDGE] FILE..\n");
         return;
     }
-    answer(judged(&rt, end));
+    if let Err(t) = judged(&rt, end).and_then(answer) {
+        t.tell();
+    }
+}
+
+// The rank whose records the first argument asks for.
+fn listed_of(rt: &HostRuntime) -> Option<Rank> {
+    if inputs::is(rt, 1, b"--list") {
+        return Some(Rank::First);
+    }
+    inputs::is(rt, 1, b"--second").then_some(Rank::Second)
+}
+
+fn sought(rt: &HostRuntime, rank: Rank) -> List {
+    List {
+        from: number_at(rt, 2),
+        to: number_at(rt, 3),
+        limit: number_at(rt, 4),
+        rank,
+    }
 }
 
 // The number that an argument spells.
@@ -75,59 +69,40 @@ fn number_at(rt: &HostRuntime, i: usize) -> u64 {
     spelled(&digits[..n])
 }
 
+// Whatever the bytes are: a number too long wraps.
 fn spelled(digits: &[u8]) -> u64 {
-    let mut n: u64 = 0;
-    let mut i: usize = 0;
-    while i < digits.len() {
-        n = tens(n, digits[i]);
-        i += 1;
-    }
-    n
+    digits.iter().fold(0, |n: u64, &d| {
+        n.wrapping_mul(10)
+            .wrapping_add(u64::from(d).wrapping_sub(48))
+    })
 }
 
-// Ten times n and the digit's value.
-fn tens(n: u64, digit: u8) -> u64 {
-    let two = std::num::wrapping_add_u64(n, n);
-    let four = std::num::wrapping_add_u64(two, two);
-    let eight = std::num::wrapping_add_u64(four, four);
-    let ten = std::num::wrapping_add_u64(eight, two);
-    std::num::wrapping_add_u64(ten, std::num::wrapping_sub_u64(digit as u64, 48))
-}
-
-fn judged(rt: &HostRuntime, end: usize) -> Lot {
-    let mut lot = reading::first(rt);
-    let mut i: usize = 1;
-    while i < end {
-        if i != 1 {
-            lot = reading::later(rt, lot, i);
-        }
-        i += 1;
+fn judged(rt: &HostRuntime, end: usize) -> Result<Lot, Trouble> {
+    let mut lot = reading::first(rt)?;
+    for i in 2..end {
+        lot = reading::later(rt, lot, i)?;
     }
-    lot
+    Ok(lot)
 }
 
 // Closes at the last record's edge. A state that was opened and whose last edge is the end is not refused.
-fn answer(lot: Lot) {
-    if lot.place.stopped {
-        return;
-    }
+fn answer(lot: Lot) -> Result<(), Trouble> {
     let state = lot.state;
-    let c = state.close(state.one.edge);
-    if c.refused != 0 {
-        values::refusal(1, 0, c.refused);
-        return;
+    let (first, second) = calls::closed(state, state.one.edge).map_err(refused)?;
+    if let Some((two, second)) = lot.two.zip(second) {
+        text::value(b"rank", 1);
+        values::end(lot.one, state.one.count, first, lot.header);
+        text::value(b"rank", 2);
+        values::end(two, state.two.count, second, lot.header);
+    } else {
+        values::end(lot.one, state.one.count, first, lot.header);
     }
-    let header = lot.header;
-    let e = c.end;
-    let one = lot.one;
-    if state.edition != 2 {
-        values::end(one, state.one.count, e, header);
-        return;
+    Ok(())
+}
+
+fn refused(refusal: Refusal) -> Trouble {
+    Trouble {
+        file: 1,
+        why: Why::Refused { refusal, at: 0 },
     }
-    text::value(b"rank", 1);
-    values::end(one, state.one.count, e, header);
-    text::value(b"rank", 2);
-    let second = c.second;
-    let two = lot.two;
-    values::end(two, state.two.count, second, header);
 }

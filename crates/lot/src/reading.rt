@@ -1,235 +1,163 @@
 // The first reading: each file's bytes, in sections of 6,000, through the judge and the tally.
-use crate::{Lot, Place, eights, values};
-use header::Header;
+use crate::trouble::{Trouble, Why};
+use crate::view::{Rank, SECTION};
+use crate::{Lot, calls, eights, values};
 use judge::State;
+use refusals::Refusal;
 use std::fs::File;
-use tally::{Tallied, Tally};
+use tally::Tally;
 
-// A section's bytes.
-const SECTION: usize = 6000;
+// Where the reading of a file stands: its number, the byte of it that comes next, the count and the edge at its start, and whether it begins with
+// a header of its own.
+#[derive(Clone, Copy)]
+struct Place {
+    file: usize,
+    at: u64,
+    count: u32,
+    edge: u64,
+    headed: bool,
+}
+
+impl Place {
+    // At the start of a file, behind count records, the last of them at the edge.
+    fn start(file: usize, count: u32, edge: u64) -> Place {
+        Place {
+            file,
+            at: 0,
+            count,
+            edge,
+            headed: false,
+        }
+    }
+
+    fn behind(self, bytes: &[u8]) -> Place {
+        let mut n = self;
+        n.at = self.at.wrapping_add(bytes.len() as u64);
+        n
+    }
+
+    fn trouble(self, why: Why) -> Trouble {
+        Trouble {
+            file: self.file,
+            why,
+        }
+    }
+
+    // A refusal, at a byte behind this place.
+    fn refused(self, refusal: Refusal, behind: usize) -> Trouble {
+        let at = self.at.wrapping_add(behind as u64);
+        self.trouble(Why::Refused { refusal, at })
+    }
+
+    // The bytes that come next, at the front of space; what does not fill it is to be the file's end.
+    fn next<'a>(self, file: &Option<File>, space: &'a mut [u8]) -> Result<&'a [u8], Trouble> {
+        let n = inputs::fill(file, space);
+        if n < space.len() && !inputs::ends(file) {
+            return Err(self.trouble(Why::Unread));
+        }
+        if self.at == 0 && n == 0 {
+            return Err(self.trouble(Why::Empty));
+        }
+        Ok(&space[..n])
+    }
+
+    // Does a later file begin with what opening would take as a header?
+    fn begins_anew(self, bytes: &[u8]) -> bool {
+        self.file != 1 && self.at == 0 && bytes.len() >= 6 && State::open(&bytes[..6]).is_ok()
+    }
+}
 
 // The lot's first file: the header, and the records behind it.
-pub(crate) fn first(rt: &HostRuntime) -> Lot {
-    let file = opened(rt, 1);
-    let start = headed(&file);
-    sections(start, &file)
+pub(crate) fn first(rt: &HostRuntime) -> Result<Lot, Trouble> {
+    let place = Place::start(1, 0, 0);
+    let file = opened(rt, place)?;
+    let mut header = [0u8; 6];
+    let bytes = place.next(&file, &mut header)?;
+    let behind = place.behind(bytes);
+    let state = State::open(bytes).map_err(|n| place.refused(n, 0))?;
+    values::edition(state.edition);
+    values::part(state.header);
+    sections(begun(state, header), behind, &file)
+}
+
+fn begun(state: State, header: [u8; 6]) -> Lot {
+    let tally = Tally::start();
+    Lot {
+        header,
+        state,
+        one: tally,
+        two: (state.edition == 2).then_some(tally),
+    }
 }
 
 // A later file.
-pub(crate) fn later(rt: &HostRuntime, lot: Lot, i: usize) -> Lot {
-    if lot.place.stopped {
-        return lot;
-    }
-    let file = opened(rt, i);
-    let place = begun(i, file.is_some(), lot.state.one.count, lot.state.one.edge);
-    sections(moved(lot, place), &file)
+pub(crate) fn later(rt: &HostRuntime, lot: Lot, i: usize) -> Result<Lot, Trouble> {
+    let place = Place::start(i, lot.state.one.count, lot.state.one.edge);
+    let file = opened(rt, place)?;
+    sections(lot, place, &file)
 }
 
 // The file, where it can be opened.
-fn opened(rt: &HostRuntime, i: usize) -> Option<File> {
-    let file = inputs::open(rt, i);
+fn opened(rt: &HostRuntime, place: Place) -> Result<Option<File>, Trouble> {
+    let file = inputs::open(rt, place.file);
     if file.is_none() {
-        values::trouble(i as u64, b"why unopened\n");
+        return Err(place.trouble(Why::Unopened));
     }
-    file
+    Ok(file)
 }
 
-fn begun(i: usize, open: bool, count: u32, edge: u64) -> Place {
-    Place {
-        file: i,
-        at: 0,
-        count: count as u64,
-        edge: edge,
-        headed: false,
-        more: open,
-        stopped: !open,
-    }
-}
-
-fn moved(lot: Lot, place: Place) -> Lot {
-    let mut n = lot;
-    n.place = place;
-    n
-}
-
-fn headed(file: &Option<File>) -> Lot {
-    let mut header = [0u8; 6];
-    let k = inputs::fill(file, &mut header);
-    let o = State::open(&header[..k]);
-    let state = o.state;
-    let place = behind_header(begun(1, file.is_some(), 0, 0), file, k, o.refused);
-    part(place.stopped, state.edition, state.header);
-    let tally = Tally::start();
-    Lot {
-        place: place,
-        header: header,
-        state: state,
-        one: tally,
-        two: tally,
-    }
-}
-
-// The place behind k bytes of a header.
-fn behind_header(p: Place, file: &Option<File>, k: usize, refused: u64) -> Place {
-    let start = behind(p, file, k == 6, k);
-    if start.stopped {
-        return start;
-    }
-    if refused != 0 {
-        values::refusal(start.file as u64, 0, refused);
-        return stopped(start);
-    }
-    let mut n = start;
-    n.more = true;
-    n
-}
-
-fn part(stopped: bool, edition: u64, h: Header) {
-    if stopped {
-        return;
-    }
-    if edition == 2 {
-        values::edition(edition);
-    }
-    values::part(h);
-}
-
-// The place behind k bytes more; what is not full is to be the file's end.
-fn behind(p: Place, file: &Option<File>, full: bool, k: usize) -> Place {
-    let mut n = p;
-    if p.stopped {
-        return n;
-    }
-    if !full {
-        if !inputs::ends(file) {
-            values::trouble(p.file as u64, b"why unread\n");
-            return stopped(p);
-        }
-    }
-    if (p.at == 0) & (k == 0) {
-        values::trouble(p.file as u64, b"why empty\n");
-        return stopped(p);
-    }
-    n.more = full;
-    n.at = std::num::wrapping_add_u64(p.at, k as u64);
-    n
-}
-
-fn stopped(p: Place) -> Place {
-    let mut n = p;
-    n.more = false;
-    n.stopped = true;
-    n
-}
-
-// Section after section. Nothing says that a file ends, so the turns count down from a number that no run uses up.
-fn sections(start: Lot, file: &Option<File>) -> Lot {
+// Section after section. Nothing says that a file ends, so the turns have a bound that no run comes to.
+fn sections(start: Lot, from: Place, file: &Option<File>) -> Result<Lot, Trouble> {
     let mut lot = start;
-    let mut turns = u64::MAX;
-    while turns > 0 {
-        if !lot.place.more {
-            return lot;
+    let mut place = from;
+    for _ in 0..u64::MAX {
+        let mut space = [0u8; SECTION];
+        let bytes = place.next(file, &mut space)?;
+        place.headed = place.headed || place.begins_anew(bytes);
+        lot = taken(lot, place, bytes)?;
+        if bytes.len() < SECTION {
+            tell(place, lot.state);
+            break;
         }
-        lot = section(lot, file);
-        turns -= 1;
+        place = place.behind(bytes);
     }
-    lot
+    Ok(lot)
 }
 
-fn section(lot: Lot, file: &Option<File>) -> Lot {
-    let mut space = [0u8; SECTION];
-    let k = inputs::fill(file, &mut space);
-    let mut place = behind(lot.place, file, k == SECTION, k);
-    if place.stopped {
-        return moved(lot, place);
-    }
-    place.headed = place.headed | begins_anew(lot.place, &space[..k]);
-    taken(lot, place, &space[..k])
-}
-
-// Does a later file begin with what opening would take as a header?
-fn begins_anew(p: Place, bytes: &[u8]) -> bool {
-    let head: usize = 6;
-    if (p.file == 1) | (p.at != 0) {
-        return false;
-    }
-    if bytes.len() < head {
-        return false;
-    }
-    let o = State::open(&bytes[..head]);
-    o.refused == 0
-}
-
-fn taken(lot: Lot, p: Place, bytes: &[u8]) -> Lot {
+fn taken(lot: Lot, place: Place, bytes: &[u8]) -> Result<Lot, Trouble> {
     let state = lot.state;
-    let t = state.section(bytes);
-    let one = counted(lot.one, state.edition, false, bytes);
-    let two = counted(lot.two, state.edition, true, bytes);
-    let other = worse(one.refused, two.refused);
-    let place = checked(p, lot.place.at, bytes, t.refused, other, state);
-    let next = t.state;
-    tell(place, next.one.count, next.one.edge);
-    let header = lot.header;
-    let first = one.tally;
-    let second = two.tally;
-    Lot {
-        place: place,
-        header: header,
-        state: next,
-        one: first,
-        two: second,
-    }
+    let taken = state
+        .section(bytes)
+        .map_err(|n| place.refused(n, refused_at(n, bytes, state)))?;
+    counted(lot, taken.state, bytes).map_err(|n| place.refused(n, 0))
 }
 
-// The tally of what a rank sees: in edition 1 the second sees nothing.
-fn counted(t: Tally, edition: u64, second: bool, bytes: &[u8]) -> Tallied {
-    if edition == 2 {
-        return eights::counted(t, second, bytes);
+fn counted(lot: Lot, state: State, bytes: &[u8]) -> Result<Lot, Refusal> {
+    let mut n = lot;
+    n.state = state;
+    n.one = calls::counted(lot.one, state.edition, Rank::First, bytes)?;
+    if let Some(two) = lot.two {
+        n.two = Some(calls::counted(two, state.edition, Rank::Second, bytes)?);
     }
-    if second {
-        return t.section(&bytes[..0]);
-    }
-    t.section(bytes)
+    Ok(n)
 }
 
-fn worse(one: u64, two: u64) -> u64 {
-    if one != 0 {
-        return one;
-    }
-    two
-}
-
-// The place behind a section that began at the byte `at`, or stopped where the judge or the tally refused it.
-fn checked(p: Place, at: u64, bytes: &[u8], refused: u64, other: u64, s: State) -> Place {
-    if refused != 0 {
-        let place = std::num::wrapping_add_u64(at, refused_at(refused, bytes, s) as u64);
-        values::refusal(p.file as u64, place, refused);
-        return stopped(p);
-    }
-    if other != 0 {
-        values::refusal(p.file as u64, at, other);
-        return stopped(p);
-    }
-    p
-}
-
-fn refused_at(refused: u64, bytes: &[u8], s: State) -> usize {
+fn refused_at(refusal: Refusal, bytes: &[u8], s: State) -> usize {
+    let refused = u64::from(refusal.number());
     if s.edition == 2 {
         return eights::refused_at(refused, bytes, s.one.count);
     }
     tally::refused_at(refused, bytes, s.one.count)
 }
 
-// A line for a file that was read to its end.
-fn tell(p: Place, count: u32, edge: u64) {
-    if p.more | p.stopped {
-        return;
-    }
+// The lines of a file that was read to its end.
+fn tell(p: Place, s: State) {
+    let records = s.one.count.wrapping_sub(p.count);
     values::file(
         p.file as u64,
-        std::num::wrapping_sub_u64(count as u64, p.count),
+        u64::from(records),
         p.edge,
-        edge,
+        s.one.edge,
         p.headed,
     );
 }

@@ -1,6 +1,4 @@
 // Words and numbers on standard output.
-ghost use Rattle.std.specs.Prelude.{◌≤◌, length};
-
 // Standard output, by number.
 pub(crate) const STDOUT_FILENO: i32 = 1;
 
@@ -27,21 +25,7 @@ pub(crate) fn hex(text: &[u8], n: u64, digits: usize) {
 
 // A text without the spaces that fill it up.
 pub(crate) fn word(text: &[u8]) {
-    let n = filled(text);
-    put(&text[..n]);
-}
-
-fn filled(text: &[u8]) -> usize
-    ensures { result ≤ length text.now }
-{
-    let mut n = text.len();
-    while n > 0 {
-        if text[n - 1] != b' ' {
-            return n;
-        }
-        n -= 1;
-    }
-    0
+    put(text.trim_ascii_end());
 }
 
 // `name value`, and the line's end.

@@ -1,17 +1,20 @@
 // Each value under its name, on standard output: `name value` a line, and nothing laid out. What is written is under no contract; what the values
 // are is, where they are worked out. A name that stands several times (file, row, list) begins anew what follows it.
 use crate::text::{hex, number, put, say, value, word};
-use answers::{End, Register, Shown, Verdict};
+use answers::{End, Shown, Verdict};
 use chip::Chip;
-use glossary::Line;
+use glossary::{Level, Line};
 use header::Header;
 use tally::{Found, Placed, Tally};
 
 // The kind of a power-down entry.
 const ENTRY: usize = 17;
 
+// An edition that is not 1.
 pub(crate) fn edition(n: u64) {
-    value(b"edition", n);
+    if n == 2 {
+        value(b"edition", n);
+    }
 }
 
 pub(crate) fn part(h: Header) {
@@ -19,15 +22,8 @@ pub(crate) fn part(h: Header) {
     value(b"density_gb", if h.dense { 2 } else { 1 });
     value(b"width", if h.wide { 16 } else { 8 });
     value(b"period_ps", h.period.ps);
-    value(b"hot", bit(h.hot));
+    value(b"hot", u64::from(h.hot));
     clocks(chip::chip_of(h));
-}
-
-fn bit(b: bool) -> u64 {
-    if b {
-        return 1;
-    }
-    0
 }
 
 fn count(name: &[u8], n: u32) {
@@ -80,74 +76,44 @@ pub(crate) fn file(n: u64, records: u64, from: u64, to: u64, headed: bool) {
     value(b"file_records", records);
     value(b"file_after_edge", from);
     value(b"file_to_edge", to);
-    value(b"file_headed", bit(headed));
-}
-
-// A file that cannot be judged, and why: there is no verdict.
-pub(crate) fn trouble(n: u64, why: &[u8]) {
-    put(b"outcome none\n");
-    value(b"trouble_file", n);
-    put(why);
-}
-
-// A refusal of 01, at a byte of the file.
-pub(crate) fn refusal(n: u64, at: u64, refused: u64) {
-    trouble(n, b"why refused\n");
-    value(b"refused", refused);
-    value(b"refused_byte", at);
+    value(b"file_headed", u64::from(headed));
 }
 
 // The tally, the verdict, and what stands at the end.
 pub(crate) fn end(t: Tally, records: u32, c: End, header: [u8; 6]) {
-    let counts = t.counts;
-    rows(counts);
+    rows(t.counts);
     count(b"count_all", records);
-    let v = c.verdict;
-    verdict(v);
-    let banks = c.banks;
-    print_banks(banks);
-    let registers = c.registers;
-    print_registers(header, registers);
+    verdict(c.verdict);
+    print_banks(c.banks);
+    print_registers(header, c.registers);
     value(b"debt_plus_8", c.owed);
 }
 
 // The rows of the glossary, with the count of each one's kind.
 fn rows(counts: [u64; 19]) {
-    let mut i: usize = 0;
-    while i < 28 {
-        let l = glossary::line_at(i, counts);
-        row(l);
-        i += 1;
+    for i in 0..28 {
+        row(glossary::line_at(i, counts));
     }
 }
 
+// The levels are of CKE before and now, of asleep before, of CS, RAS, CAS, WE and A10.
 fn row(l: Line) {
     let w = l.row;
-    let name = w.name;
-    text(b"row ", &name);
-    let x = w.levels;
+    text(b"row ", &w.name);
     put(b"row_levels ");
-    levels(x);
-    let meaning = w.meaning;
-    text(b"\nrow_meaning ", &meaning);
+    for l in w.levels {
+        level(l);
+    }
+    text(b"\nrow_meaning ", &w.meaning);
     value(b"row_count", l.count);
 }
 
-// CKE before and now, asleep before, CS, RAS, CAS, WE, A10.
-fn levels(x: [u64; 8]) {
-    let mut i: usize = 0;
-    while i < 8 {
-        level(x[i]);
-        i += 1;
-    }
-}
-
 // x for any.
-fn level(l: u64) {
-    if l < 2 {
-        number(l);
-    } else {
-        put(b"x");
+fn level(l: Level) {
+    match l {
+        Level::Low => put(b"0"),
+        Level::High => put(b"1"),
+        Level::Any => put(b"x"),
     }
 }
 
@@ -187,54 +153,56 @@ pub(crate) fn listed(p: Placed, at: u64) {
 fn pins(f: Found) {
     let r = f.fields;
     let w = glossary::row_of(f.kind as u64);
-    let name = w.name;
-    text(b"list_command ", &name);
-    value(b"list_cke_before", bit(f.level));
-    value(b"list_cke", bit(r.cke));
+    text(b"list_command ", &w.name);
+    value(b"list_cke_before", u64::from(f.level));
+    value(b"list_cke", u64::from(r.cke));
     value(b"list_pins", r.pins);
-    value(b"list_power_down", bit(f.kind == ENTRY));
+    value(b"list_power_down", u64::from(f.kind == ENTRY));
 }
 
 fn print_banks(banks: [Shown; 8]) {
-    let mut i: usize = 0;
-    while i < 8 {
-        bank(i as u64, banks[i]);
-        i += 1;
+    for (i, &b) in banks.iter().enumerate() {
+        bank(i as u64, b);
     }
 }
 
 // 0 idle, 1 open, 2 closing; row and ACT edge unless it is idle.
 fn bank(i: u64, b: Shown) {
     say(b"bank", i);
-    value(b"", b.status);
-    if b.status != 0 {
-        say(b"bank", i);
-        hex(b"_row ", b.row, 4);
-        say(b"bank", i);
-        value(b"_act_edge", b.act);
+    match b {
+        Shown::Idle => value(b"", 0),
+        Shown::Open { row, act } => active(i, 1, row, act),
+        Shown::Closing { row, act } => active(i, 2, row, act),
     }
 }
 
-fn print_registers(header: [u8; 6], registers: [Register; 4]) {
-    let mut i: usize = 0;
-    while i < 4 {
-        register(header, i as u32, registers[i]);
-        i += 1;
+fn active(i: u64, status: u64, row: u64, act: u64) {
+    value(b"", status);
+    say(b"bank", i);
+    hex(b"_row ", row, 4);
+    say(b"bank", i);
+    value(b"_act_edge", act);
+}
+
+fn print_registers(header: [u8; 6], registers: [Option<u16>; 4]) {
+    for (i, &code) in registers.iter().enumerate() {
+        if let Some(code) = code {
+            register(header, i as u32, code);
+        }
     }
 }
 
-// Its code and the six values of register reading, if it is written.
-fn register(header: [u8; 6], n: u32, g: Register) {
-    if !g.written {
-        return;
-    }
-    say(b"mr", n as u64);
-    hex(b" ", g.code as u64, 4);
+// Its code and the six values of register reading.
+fn register(header: [u8; 6], n: u32, code: u16) {
+    say(b"mr", u64::from(n));
+    hex(b" ", u64::from(code), 4);
     let mut six = [0u8; 6];
-    if registers::read(&of_edition_1(header), n, g.code, &mut six) == 0 {
-        say(b"mr", n as u64);
+    if registers::read(&of_edition_1(header), n, code, &mut six).is_ok() {
+        say(b"mr", u64::from(n));
         put(b"_reading");
-        reading(six);
+        for n in six {
+            say(b" ", u64::from(n));
+        }
         put(b"\n");
     }
 }
@@ -244,16 +212,4 @@ fn of_edition_1(header: [u8; 6]) -> [u8; 6] {
     let mut h = header;
     h[0] = header[0] % 16 + 16;
     h
-}
-
-fn reading(six: [u8; 6]) {
-    let mut i: usize = 0;
-    while i < 6 {
-        small(six[i]);
-        i += 1;
-    }
-}
-
-fn small(n: u8) {
-    say(b" ", n as u64);
 }

@@ -1,31 +1,24 @@
-// The file that the second argument names, and words on standard error.
+// The file that the second argument names, read in sections.
+use crate::trouble::Trouble;
 use std::fs::File;
-
-// Standard error, by number.
-const STDERR_FILENO: i32 = 2;
 
 // A section's bytes: whole records in both editions.
 pub(crate) const SECTION: usize = 6000;
 
 // The file, where it can be opened.
-pub(crate) fn opened(rt: &HostRuntime) -> Option<File> {
+pub(crate) fn opened(rt: &HostRuntime) -> Result<Option<File>, Trouble> {
     let file = inputs::open(rt, 2);
     if file.is_none() {
-        tell(b"why unopened\n");
+        return Err(Trouble::Unopened);
     }
-    file
+    Ok(file)
 }
 
-pub(crate) fn unread() {
-    tell(b"why unread\n");
-}
-
-pub(crate) fn refusal(n: u64) {
-    tell(b"refused ");
-    io::print_decimal(STDERR_FILENO, n);
-    tell(b"\n");
-}
-
-pub(crate) fn tell(text: &[u8]) {
-    io::write_all(STDERR_FILENO, text);
+// The bytes that come next, at the front of space; what does not fill it is to be the file's end.
+pub(crate) fn next<'a>(source: &Option<File>, space: &'a mut [u8]) -> Result<&'a [u8], Trouble> {
+    let n = inputs::fill(source, space);
+    if n < space.len() && !inputs::ends(source) {
+        return Err(Trouble::Unread);
+    }
+    Ok(&space[..n])
 }

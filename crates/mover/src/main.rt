@@ -5,39 +5,33 @@
 #![tactic(auto)]
 
 mod checking;
+mod direction;
 mod file;
+mod trouble;
 mod writing;
 
+use direction::Direction;
+use trouble::Trouble;
+
 fn main(rt: HostRuntime) {
-    if inputs::count(&rt) != 3 {
-        usage();
-        return;
+    let way = Direction::named(&rt);
+    match way {
+        Some(way) if inputs::count(&rt) == 3 => run(&rt, way),
+        _ => usage(),
     }
-    if inputs::is(&rt, 1, b"widen") {
-        run(&rt, true);
-        return;
-    }
-    if inputs::is(&rt, 1, b"narrow") {
-        run(&rt, false);
-        return;
-    }
-    usage();
 }
 
 fn usage() {
-    file::tell(b"usage: mover widen IN, or mover narrow IN\n");
+    trouble::tell(b"usage: mover widen IN, or mover narrow IN\n");
 }
 
-fn run(rt: &HostRuntime, widens: bool) {
-    let f = checking::checked(rt, widens);
-    if f.unread {
-        return;
+fn run(rt: &HostRuntime, way: Direction) {
+    if let Err(why) = moved(rt, way) {
+        why.tell();
     }
-    let c = f.check;
-    let refused = c.refusal();
-    if refused != 0 {
-        file::refusal(refused as u64);
-        return;
-    }
-    writing::write(rt, widens, c.bytes);
+}
+
+fn moved(rt: &HostRuntime, way: Direction) -> Result<(), Trouble> {
+    let bytes = checking::checked(rt, way)?;
+    writing::write(rt, way, bytes)
 }

@@ -1,95 +1,66 @@
 // The second reading: the moved recording, on standard output.
-ghost use Rattle.std.specs.Prelude.{◌≤◌, ◌<◌};
+ghost use Rattle.std.specs.Prelude.{◌≤◌};
 ghost use Rattle.io.specs.Counts.{IsPrefixLen};
 
+use crate::direction::Direction;
 use crate::file;
 use crate::file::SECTION;
+use crate::trouble::Trouble;
 use std::fs::File;
 
 // Standard output, by number.
 const STDOUT_FILENO: i32 = 1;
 
 // The header, and so many bytes of records.
-pub(crate) fn write(rt: &HostRuntime, widens: bool, bytes: u64) {
-    let source = file::opened(rt);
-    if source.is_none() {
-        return;
-    }
-    if headed(&source, widens) {
-        sections(&source, widens, bytes);
-    }
+pub(crate) fn write(rt: &HostRuntime, way: Direction, bytes: u64) -> Result<(), Trouble> {
+    let source = file::opened(rt)?;
+    headed(&source, way)?;
+    sections(&source, way, bytes)
 }
 
-fn headed(source: &Option<File>, widens: bool) -> bool {
+fn headed(source: &Option<File>, way: Direction) -> Result<(), Trouble> {
     let mut header = [0u8; 6];
-    let k = inputs::fill(source, &mut header);
-    if k != 6 {
-        file::unread();
-        return false;
+    if inputs::fill(source, &mut header) != 6 {
+        return Err(Trouble::Unread);
     }
-    header[0] = to(widens) * 16 + header[0] % 16;
-    io::write_all(STDOUT_FILENO, &header)
+    header[0] = way.to() * 16 + header[0] % 16;
+    put(&header)
 }
 
-// The edition that a move comes to.
-fn to(widens: bool) -> u8
-    ensures { result ≤ 2 }
-{
-    if widens {
-        return 2;
+fn sections(source: &Option<File>, way: Direction, bytes: u64) -> Result<(), Trouble> {
+    for at in (0..bytes).step_by(SECTION) {
+        let n = (bytes - at).min(SECTION as u64);
+        section(source, way, n as usize)?;
     }
-    1
+    Ok(())
 }
 
-// Section after section, up to the end or to one that cannot be read or written.
-fn sections(source: &Option<File>, widens: bool, bytes: u64) {
-    let mut left = bytes;
-    while left > 0 {
-        let n = least(left);
-        if !section(source, widens, n) {
-            return;
-        }
-        left -= n as u64;
-    }
-}
-
-// A section's bytes, or what is left.
-fn least(left: u64) -> usize
-    requires { 0 < left }
-    ensures { (0 < result) × ((result ≤ left) × (result ≤ 6000)) }
-{
-    if left < 6000 {
-        return left as usize;
-    }
-    SECTION
-}
-
-// n bytes more of records, or false.
-fn section(source: &Option<File>, widens: bool, n: usize) -> bool
+// n bytes more of records.
+fn section(source: &Option<File>, way: Direction, n: usize) -> Result<(), Trouble>
     requires { n ≤ 6000 }
 {
     let mut space = [0u8; SECTION];
-    let k = inputs::fill(source, &mut space);
-    if k < n {
-        file::unread();
-        return false;
+    if inputs::fill(source, &mut space) < n {
+        return Err(Trouble::Unread);
     }
-    put(widens, &space[..n])
+    let mut out = [0u8; 8000];
+    let k = moved(way, &space[..n], &mut out);
+    put(&out[..k])
 }
 
-fn put(widens: bool, bytes: &[u8]) -> bool {
-    let mut out = [0u8; 8000];
-    let n = moved(widens, bytes, &mut out);
-    io::write_all(STDOUT_FILENO, &out[..n])
+fn put(bytes: &[u8]) -> Result<(), Trouble> {
+    if io::write_all(STDOUT_FILENO, bytes) {
+        return Ok(());
+    }
+    Err(Trouble::Unwritten)
 }
 
 // The moved records at the front of out, and how many bytes they take.
-fn moved(widens: bool, bytes: &[u8], out: &mut [u8]) -> usize
+fn moved(way: Direction, bytes: &[u8], out: &mut [u8]) -> usize
     ensures { IsPrefixLen result out.new }
 {
-    if widens {
-        return wide::widen_records(bytes, out);
+    match way {
+        Direction::Widen => wide::widen_records(bytes, out),
+        Direction::Narrow => wide::narrow_records(bytes, false, out).len,
     }
-    let p = wide::narrow_records(bytes, false, out);
-    p.len
 }

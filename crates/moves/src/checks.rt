@@ -1,12 +1,12 @@
 // The checks of a move but for 9: 1, 2, 3, 4 of the header, then 5, 7, 6, 14, 13 over all sections.
 ghost use Rattle.std.specs.Prelude.{◌≡◌, if◌then◌else◌, nat_eq, nat_lt};
-ghost use Rattle.header.specs.Bytes.{header_refusal};
+ghost use Rattle.refusals.specs.Refusals.{number_in};
 ghost use Rattle.moves.specs.Moves as defs;
 ghost use Rattle.moves.specs.Check.{seen_by};
-ghost use Rattle.moves.specs.Promises.{Begun, Over, Refusal};
+ghost use Rattle.moves.specs.Promises.{Begun, Over, Outcome};
 
 use crate::Check;
-use header::Parsed;
+use refusals::Refusal;
 use wide::Seen;
 
 // The records of a recording, at most.
@@ -24,7 +24,7 @@ impl Check {
         };
         Check {
             edition: edition,
-            refused: opened(header, edition),
+            refused: header::parse(header, edition).err(),
             bytes: 0,
             seen: none,
         }
@@ -43,28 +43,18 @@ impl Check {
         }
     }
 
-    // The first check that fails, or 0.
-    pub fn refusal(self) -> u32
-        ensures { Refusal self result }
+    // The first check that fails.
+    pub fn outcome(self) -> Result<(), Refusal>
+        ensures { Outcome self (number_in result) }
     {
-        let refused = self.refused;
         let n = self.bytes;
-        if refused != 0 {
-            return refused;
+        if let Some(refused) = self.refused {
+            return Err(refused);
         }
         if self.edition == 1 {
             return counted(n % 6, n / 6, by_seen(self.seen));
         }
         counted(n % 8, n / 8, by_seen(self.seen))
-    }
-}
-
-fn opened(header: &[u8], edition: u64) -> u32
-    ensures { result ≡ header_refusal edition header.now }
-{
-    match header::parse(header, edition) {
-        Parsed::Taken(_) => 0,
-        Parsed::Refused(n) => n as u32,
     }
 }
 
@@ -82,29 +72,29 @@ fn seen_by(edition: u64, s: Seen, bytes: &[u8]) -> Seen
 }
 
 // By the bytes behind the last whole record, the number of records, and what is refused of them.
-fn counted(over: u64, count: u64, more: u32) -> u32
-    ensures { result ≡ (if nat_eq over 0 then (if nat_lt 1048576 count then 7 else more) else 5) }
+fn counted(over: u64, count: u64, more: Result<(), Refusal>) -> Result<(), Refusal>
+    ensures { number_in result ≡ (if nat_eq over 0 then (if nat_lt 1048576 count then 7 else number_in more) else 5) }
 {
     if over != 0 {
-        return 5;
+        return Err(Refusal::CutShort);
     }
     if LIMIT < count {
-        return 7;
+        return Err(Refusal::TooMany);
     }
     more
 }
 
-fn by_seen(s: Seen) -> u32
-    ensures { result ≡ defs.seen_refusal s }
+fn by_seen(s: Seen) -> Result<(), Refusal>
+    ensures { number_in result ≡ defs.seen_refusal s }
 {
     if s.zero {
-        return 6;
+        return Err(Refusal::ZeroStep);
     }
     if s.spare {
-        return 14;
+        return Err(Refusal::ZeroBits);
     }
     if s.stays {
-        return 13;
+        return Err(Refusal::NoWayBack);
     }
-    0
+    Ok(())
 }

@@ -5,65 +5,61 @@
 mod checks;
 
 ghost use Rattle.std.specs.Prelude.{◌≡◌, ◌<◌, ◌≤◌, ◌++◌, length, take, drop};
+ghost use Rattle.refusals.specs.Refusals.{number_in};
 ghost use Rattle.moves.specs.Moves.{headed};
 ghost use Rattle.moves.specs.Check.{begun_of, over_of, refusal_of};
 ghost use Rattle.moves.specs.Promises.{Widen, Narrow};
 
+use refusals::Refusal;
 use wide::Seen;
 
-// How far the checks have come: the edition that the move starts from, the header's refusal or 0, the bytes behind it, and what was seen in the
+// How far the checks have come: the edition that the move starts from, the header's refusal, the bytes behind it, and what was seen in the
 // records.
 #[derive(Clone, Copy)]
 pub struct Check {
     pub edition: u64,
-    pub refused: u32,
+    pub refused: Option<Refusal>,
     pub bytes: u64,
     pub seen: Seen,
 }
 
-// Edition 1 to 2. Checks 1, 2, 3, 4, 5, 7, 6, 9; then writes the moved recording to the front of out and returns 0.
-pub fn widen(recording: &[u8], out: &mut [u8]) -> u32
-    ensures { Widen recording.now out.old result out.new }
+// Edition 1 to 2. Checks 1, 2, 3, 4, 5, 7, 6, 9; then writes the moved recording to the front of out.
+pub fn widen(recording: &[u8], out: &mut [u8]) -> Result<(), Refusal>
+    ensures { Widen recording.now out.old (number_in result) out.new }
 {
-    let refused = refused(recording, 1);
-    if refused != 0 {
-        return refused;
-    }
+    checked(recording, 1)?;
     let count = (recording.len() - 6) / 6;
     if out.len() < 6 + 8 * count {
-        return 9;
+        return Err(Refusal::Room);
     }
     put_header(recording, 2, out);
     wide::widen_records(&recording[6..], &mut out[6..]);
-    0
+    Ok(())
 }
 
 // Edition 2 to 1. Checks 1, 2, 3, 4, 5, 7, 6, 14, 13, 9.
-pub fn narrow(recording: &[u8], out: &mut [u8]) -> u32
-    ensures { Narrow recording.now out.old result out.new }
+pub fn narrow(recording: &[u8], out: &mut [u8]) -> Result<(), Refusal>
+    ensures { Narrow recording.now out.old (number_in result) out.new }
 {
-    let refused = refused(recording, 2);
-    if refused != 0 {
-        return refused;
-    }
+    checked(recording, 2)?;
     let count = (recording.len() - 6) / 8;
     if out.len() < 6 + 6 * count {
-        return 9;
+        return Err(Refusal::Room);
     }
     put_header(recording, 1, out);
     wide::narrow_records(&recording[6..], false, &mut out[6..]);
-    0
+    Ok(())
 }
 
 // What refuses a move that starts from an edition, but for 9.
-fn refused(recording: &[u8], edition: u64) -> u32
-    ensures { result ≡ refusal_of (over_of (begun_of edition (take 6 recording.now)) (drop 6 recording.now)) }
+fn checked(recording: &[u8], edition: u64) -> Result<(), Refusal>
+    ensures { number_in result ≡ refusal_of (over_of (begun_of edition (take 6 recording.now)) (drop 6 recording.now)) }
 {
     if recording.len() < 6 {
-        return 1;
+        return Err(Refusal::HeaderLength);
     }
     let c = Check::begun(&recording[..6], edition);
-    c.over(&recording[6..]).refusal()
+    c.over(&recording[6..]).outcome()
 }
 
 // Puts the header of another edition to the front of out.
@@ -72,10 +68,13 @@ fn put_header(recording: &[u8], edition: u8, out: &mut [u8])
     requires edition_bound { edition < 3 }
     ensures { out.new ≡ headed edition recording.now ++ drop 6 out.old }
 {
-    out[0] = edition * 16 + recording[0] % 16;
-    out[1] = recording[1];
-    out[2] = recording[2];
-    out[3] = recording[3];
-    out[4] = recording[4];
-    out[5] = recording[5];
+    let header = [
+        edition * 16 + recording[0] % 16,
+        recording[1],
+        recording[2],
+        recording[3],
+        recording[4],
+        recording[5],
+    ];
+    out[..6].copy_from_slice(&header);
 }

@@ -12,8 +12,9 @@ use lib.ListN.{length, take, drop, length-take, length-drop, take-append-drop}
 use lib.Seq.{take_all}
 use borrow.Author.Tests.{eq-eqb, ne_eqb, eqb-true, le-ltb}
 use Rattle.header.specs.declared.Header.{Header}
-use Rattle.header.specs.declared.Parsed.{Parsed}
-use Rattle.header.specs.declared.Parsed.TheVariants.{Refused}
+use Rattle.header.specs.Bytes.{Parsed}
+use Rattle.header.proofs.Answers.{number_is}
+use Rattle.sections.proofs.Recordings.{opened-number}
 use Rattle.header.specs.Bytes.{edition_for, header_refusal, header_word, header_of, parsed_of}
 use Rattle.wide.specs.Editions.{size, view, refusal}
 use Rattle.wide.proofs.Editions.{count-both}
@@ -22,7 +23,7 @@ use Rattle.running.specs.Ranges.{last_edge}
 use Rattle.running.specs.Ends.{no_end}
 use Rattle.edges.proofs.Ranging as rank
 use Rattle.judge.specs.declared.State.{State}
-use Rattle.judge.specs.declared.Opened.{Opened}
+use Rattle.judge.specs.Answers.{OpenAnswer as Opened}
 use Rattle.judge.specs.Calls.{opened_by, open_of, of_second, closed, close_of}
 use Rattle.judge.proofs.Ranging as judge
 use Rattle.rules.specs.Past.{edge, recording}
@@ -34,7 +35,7 @@ use Rattle.sections.proofs.Section.{Stands, fits, first-stood, second-stood, clo
 use Rattle.sections.proofs.Sections.{sound-chip, opened as opened-stands, stands-more}
 use Rattle.sections.proofs.Recordings.{same-edition}
 use Rattle.lines.specs.Line.{verdict_line}
-use Rattle.program.specs.declared.Run.{Run}
+use Rattle.program.specs.Runs.{RunAnswer as Run}
 use Rattle.program.specs.Answer.{closing_line, answer_line, closing_second, second_line}
 use Rattle.program.specs.Program.{opened_run, next_run, ran_over, program_line, program_second}
 use Rattle.program.proofs.Blocks.{stopped}
@@ -180,10 +181,6 @@ module _ (input : List ℕ) where
   asked : parsed_of (edition_for header) header ≡ parsed_of edition header
   asked = ap (λ (k : ℕ). parsed_of k header) (same-edition input)
 
-  not-parsed : (header_refusal edition header ≡ 0 → ⊥) → parsed_of (edition_for header) header ≡ Refused (header_refusal edition header)
-  unfolding parsed_of
-  not-parsed some = asked ∙ rw (ne_eqb (header_refusal edition header) 0 some)
-
   parsed : header_refusal edition header ≡ 0 → Opens header (header_of (header_word header))
   unfolding parsed_of
   parsed none = asked ∙ rw (eq-eqb (header_refusal edition header) 0 none)
@@ -191,7 +188,8 @@ module _ (input : List ℕ) where
   not_opened : (header_refusal edition header ≡ 0 → ⊥) → lines ≡ wanted_lines input
   unfolding program_line program_second wanted_lines open_of
   not_opened some =
-      let number : (open_of header).refused ≡ header_refusal edition header = ap (λ (p : Parsed). (opened_by (edition_for header) p).refused) (not-parsed some) in
+      let number : (open_of header).refused ≡ header_refusal edition header =
+      ap (λ (p : Parsed). (opened_by (edition_for header) p).refused) asked ∙ opened-number (edition_for header) (parsed_of edition header) ∙ number_is edition header in
       let none : (open_of header).refused ≡ 0 → ⊥ = λ q. some (sym number ∙ q) in
       ap lines_of (stopped (length input + 1) (opened_run header) (drop 6 input) (ne_eqb _ 0 none))
       ∙ refused-lines _ _ none ∙ ap refused_lines number

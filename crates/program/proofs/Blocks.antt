@@ -1,18 +1,18 @@
 -- Sections in turn: one more, one after the last, two lists of them as one; and the loop over a block of ten.
 -- Assumes nothing.
-use Prim.Native.Nat.{ℕ, zero, suc, ◌+◌, ◌*◌, ◌-◌, ◌≤◌, ◌<◌, min}
+use Prim.Native.Nat.{ℕ, zero, suc, ◌+◌, ◌*◌, min}
 use native.Mathlib.Nat.{suc-add, zero-add}
 use native.Mathlib.Omega.{arith}
-use mathlib.Core.Bool.{Bool, true, false, ◌&&◌, and-eq-true_iff}
+use mathlib.Core.Bool.{Bool, true, false, and-eq-true_iff}
 use mathlib.Core.List.{List, [], ◌∷◌, ◌++◌}
 use mathlib.Core.Path.{◌≡◌, refl, sym, ap, ◌∙◌}
 use borrow.Author.Tests.{ltb-true, ltb-false, eqb-true}
 use lib.Dec.{eqb, ltb}
-use lib.ListN.{length, take, drop, length-take, length-drop}
-use lib.Seq.{take_all, take-append-le, drop-append-le, drop-drop}
+use lib.ListN.{length, take, drop, length-drop, drop_of_length-le}
+use lib.Seq.{take_all, take-append-le, drop-append-le}
 use Rattle.judge.specs.declared.State.{State}
 use Rattle.judge.specs.Calls.{section_of}
-use Rattle.program.specs.declared.Run.{Run}
+use Rattle.program.specs.Runs.{RunAnswer as Run}
 use Rattle.program.specs.Program.{next_run, ran_over}
 
 -- ── Sections in turn ────────────────────────────────────────────────────────────────────────
@@ -87,16 +87,6 @@ enough (suc m) (suc n) r bs s t = go r.more refl (enough m n (after r bs) (drop 
 
 -- ── The loop over a block ───────────────────────────────────────────────────────────────────
 
--- so many bytes of the block are behind, and the sections that are left give the whole block's run
-pub record Stage (start : Run) (block : List ℕ) (run : Run) (at : ℕ) : Type 0 where
-  pub left : ℕ
-  pub place : at + left * 6000 ≡ 60000
-  pub inside : run.more ≡ true → at ≤ length block
-  pub same : ran_over left run (drop at block) ≡ ran_over 10 start block
-
-pub stage-start : (start : Run) (block : List ℕ) → Stage start block start 0
-stage-start start block = record { left = 10; place = omega arith; inside = λ h. omega arith; same = refl }
-
 -- as many as there are, or all
 take-least : (k n : ℕ) (bs : List ℕ) → k ≡ min n (length bs) → take k bs ≡ take n bs
 take-least k n bs e = go (ltb (length bs) n) refl
@@ -108,39 +98,27 @@ take-least k n bs e = go (ltb (length bs) n) refl
         let all : k ≡ n = omega arith in
         ap (λ (j : ℕ). take j bs) all
 
-module _ (start : Run) (block : List ℕ) (run : Run) (at : ℕ) (st : Stage start block run at) where
-  pub stage-test : (run.more && ltb at 60000) ≡ true → (run.more ≡ true) × (at < 60000)
-  stage-test e = let both = (and-eq-true_iff run.more (ltb at 60000)).0 e in (both.0, ltb-true at 60000 both.1)
+drop-least : (k n : ℕ) (bs : List ℕ) → k ≡ min n (length bs) → drop k bs ≡ drop n bs
+drop-least k n bs e = go (ltb (length bs) n) refl
+  where
+    go : (x : Bool) → ltb (length bs) n ≡ x → drop k bs ≡ drop n bs
+    go true t =
+        let short = ltb-true (length bs) n t in
+        drop_of_length-le bs (omega arith) ∙ sym (drop_of_length-le bs (omega arith))
+    go false t =
+        let long = ltb-false (length bs) n t in
+        let all : k ≡ n = omega arith in
+        ap (λ (j : ℕ). drop j bs) all
 
-  pub stage-turn : (run.more ≡ true) × (at < 60000) → (to : ℕ) → to ≡ min (at + 6000) (length block)
-      → (n : Run) → n ≡ next_run run.state (take (to - at) (drop at block)) → Stage start block n (at + 6000)
-  stage-turn (more, below) to least n e = go st.left st.place st.same
-    where
-      part : n ≡ next_run run.state (take 6000 (drop at block))
-      part = e ∙ ap (λ (bs : List ℕ). next_run run.state bs) (take-least (to - at) 6000 (drop at block) (omega (arith, length-drop at block, st.inside more)))
+-- a turn: a section, of as many bytes as there are, or all
+pub turned :
+    (m left : ℕ) (r n : Run) (rest section behind : List ℕ) (k : ℕ) → m ≡ suc left → r.more ≡ true → k ≡ min (length rest) 6000 → section ≡ take k rest
+    → behind ≡ drop k rest → n ≡ next_run r.state section → ran_over left n behind ≡ ran_over m r rest
+turned m left r n rest section behind k one more least front back is =
+    (λ i. ran_over left (part i) (others i)) ∙ sym (goes left r rest more) ∙ ap (λ (j : ℕ). ran_over j r rest) (sym one)
+  where
+    part : n ≡ after r rest
+    part = is ∙ ap (next_run r.state) (front ∙ take-least k 6000 rest (omega arith))
 
-      within : n.more ≡ true → at + 6000 ≤ length block
-      within h =
-          let full = (was-full run.state (take 6000 (drop at block)) (sym (ap (λ (q : Run). q.more) part) ∙ h)).1 in
-          omega (arith, full, length-take 6000 (drop at block), length-drop at block)
-
-      go : (left : ℕ) → at + left * 6000 ≡ 60000 → ran_over left run (drop at block) ≡ ran_over 10 start block → Stage start block n (at + 6000)
-      go zero p s = absurd (omega arith)
-      go (suc l) p s =
-          record {
-            left = l;
-            place = omega arith;
-            inside = within;
-            same = (λ i. ran_over l (part i) (sym (drop-drop 6000 at block) i)) ∙ sym (goes l run (drop at block) more) ∙ s;
-          }
-
-  pub stage-end : (run.more && ltb at 60000) ≡ false → run ≡ ran_over 10 start block
-  stage-end e = go run.more refl
-    where
-      none : (left : ℕ) → at + left * 6000 ≡ 60000 → 60000 ≤ at → ran_over left run (drop at block) ≡ ran_over 10 start block → run ≡ ran_over 10 start block
-      none zero p l s = sym (still run (drop at block)) ∙ s
-      none (suc k) p l s = absurd (omega arith)
-
-      go : (x : Bool) → run.more ≡ x → run ≡ ran_over 10 start block
-      go true m = none st.left st.place (ltb-false at 60000 (ap (λ (x : Bool). x && ltb at 60000) (sym m) ∙ e)) st.same
-      go false m = sym (stopped st.left run (drop at block) m) ∙ st.same
+    others : behind ≡ drop 6000 rest
+    others = back ∙ drop-least k 6000 rest (omega arith)

@@ -1,3 +1,4 @@
+pub mod Runs
 pub mod Answer
 pub mod Program
 pub mod Promises

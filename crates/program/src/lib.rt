@@ -2,11 +2,14 @@
 // that it prints, one a rank.
 #![tactic(auto)]
 
-ghost use Rattle.std.specs.Prelude.{min, ◌≡◌};
+ghost use Rattle.judge.specs.Answers.{closed_as};
+ghost use Rattle.program.specs.Answer.{Ended};
+ghost use Rattle.program.specs.Runs.{run_as};
 ghost use Rattle.program.specs.Promises.{Begun, Next, Over, Line, SecondLine};
 
-use judge::State;
+use judge::{Closed, State};
 use lines::ROOM;
+use refusals::Refusal;
 
 // A section's bytes.
 pub const SECTION: usize = 6000;
@@ -14,87 +17,100 @@ pub const SECTION: usize = 6000;
 // A block's: ten sections. So much a pipe can hold, so that one call may read it all.
 pub const BLOCK: usize = 60000;
 
-// What was refused (0: nothing), the state, and whether there may be more to read.
+// So many sections has a block.
+const SECTIONS: usize = 10;
+
+// What was refused, the state, and whether there may be more to read.
 #[derive(Clone, Copy)]
 pub struct Run {
-    pub refused: u64,
+    pub refused: Option<Refusal>,
     pub state: State,
     pub more: bool,
 }
 
 // The run after the header's bytes.
 pub fn begun(header: &[u8]) -> Run
-    ensures { Begun header.now result }
+    ensures { Begun header.now (run_as result) }
 {
-    let o = State::open(header);
-    let state = o.state;
-    Run {
-        refused: o.refused,
-        state: state,
-        more: o.refused == 0,
+    match State::open(header) {
+        Ok(state) => Run {
+            refused: None,
+            state,
+            more: true,
+        },
+        Err(refused) => Run {
+            refused: Some(refused),
+            state: State::unopened(),
+            more: false,
+        },
     }
 }
 
 // The run after a section's bytes.
 pub fn next(state: State, bytes: &[u8]) -> Run
-    ensures { Next state bytes.now result }
+    ensures { Next state bytes.now (run_as result) }
 {
-    let t = state.section(bytes);
-    let after = t.state;
-    Run {
-        refused: t.refused,
-        state: after,
-        more: (t.refused == 0) & (bytes.len() == SECTION),
+    match state.section(bytes) {
+        Ok(taken) => Run {
+            refused: None,
+            state: taken.state,
+            more: bytes.len() == SECTION,
+        },
+        Err(refused) => Run {
+            refused: Some(refused),
+            state,
+            more: false,
+        },
     }
 }
 
 // The run after a block's bytes: section after section, ten at most, while there may be more. The last section of a block that is
 // not full is not full either, if only because it is empty: behind it there is no more.
 pub fn over(start: Run, block: &[u8]) -> Run
-    ensures { Over start block.now result }
+    ensures { Over (run_as start) block.now (run_as result) }
 {
     let mut run = start;
-    let mut at: usize = 0;
-    while run.more & (at < BLOCK) {
-        let to = least(at + SECTION, block.len());
-        run = next(run.state, &block[at..to]);
-        at += SECTION;
+    let mut rest = block;
+    for turn in 0..SECTIONS {
+        if !run.more {
+            return run;
+        }
+        let (section, behind) = rest.split_at(rest.len().min(SECTION));
+        run = next(run.state, section);
+        rest = behind;
     }
     run
 }
 
-fn least(a: usize, b: usize) -> usize
-    ensures { result ≡ min a b }
+// Closes at the last record's edge what was not refused.
+fn closed(run: Run) -> Result<Closed, Refusal>
+    ensures { Ended (run_as run) (closed_as result) }
 {
-    if a < b { a } else { b }
+    match run.refused {
+        Some(refused) => Err(refused),
+        None => run.state.close(run.state.one.edge),
+    }
 }
 
 // Puts the line of what was judged at the start of text, and answers how many bytes it takes.
 pub fn line(run: Run, text: &mut [u8; ROOM]) -> usize
-    ensures { Line run text.old result text.new }
+    ensures { Line (run_as run) text.old result text.new }
 {
-    if run.refused != 0 {
-        return lines::refusal_line(run.refused, text);
+    match closed(run) {
+        Ok(closed) => lines::verdict_line(closed.end.verdict, text),
+        Err(refused) => lines::refusal_line(refused.number() as u64, text),
     }
-    let state = run.state;
-    let c = state.close(state.one.edge);
-    if c.refused != 0 {
-        return lines::refusal_line(c.refused, text);
-    }
-    lines::verdict_line(c.end.verdict, text)
 }
 
 // The same of the second rank's line: no byte in edition 1, and none behind a refusal.
 pub fn second_line(run: Run, text: &mut [u8; ROOM]) -> usize
-    ensures { SecondLine run text.old result text.new }
+    ensures { SecondLine (run_as run) text.old result text.new }
 {
-    if (run.refused != 0) | (run.state.edition != 2) {
+    if run.state.edition != 2 {
         return 0;
     }
-    let state = run.state;
-    let c = state.close(state.one.edge);
-    if c.refused != 0 {
-        return 0;
+    match closed(run) {
+        Ok(closed) => lines::verdict_line(closed.second.verdict, text),
+        Err(_) => 0,
     }
-    lines::verdict_line(c.second.verdict, text)
 }

@@ -1,2 +1,4 @@
+pub mod Lanes
+pub mod Commands
 pub mod Answers
 mod Filling

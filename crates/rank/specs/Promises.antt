@@ -4,7 +4,7 @@
 use Rattle.std.specs.Prelude.{ℕ, List, ◌≡◌}
 use Rattle.answers.specs.declared.End.{End}
 use Rattle.chip.specs.declared.Chip.{Chip}
-use Rattle.edges.specs.declared.Folded.{Folded}
+use Rattle.edges.specs.Folded.{Folded}
 use Rattle.edges.specs.declared.Rank.{Rank}
 use Rattle.edges.specs.Ends.{taken_of, ended_of}
 

@@ -4,13 +4,14 @@ ghost use Rattle.running.specs.Next as was;
 ghost use Rattle.running.specs.Ranges.{Small, last_edge, far_edge};
 ghost use Rattle.edges.specs.Next as next;
 
+use crate::asked::Event;
 use crate::clocks::{need10, need11, need14};
-use crate::numbers::{most_of, one_of};
-use crate::placed::{allu32, allu64, put8u16, put8u32, put8u64, put16u32, put16u64};
+use crate::numbers::either;
+use crate::placed::{put, put_all};
 use after::{need4, need13, need19};
 use chip::{Chip, Regs};
 use edges::Banks;
-use records::{Command, Record, rank_of};
+use records::{Command, Record};
 
 // The start of the record's precharge; a: the edge of its bank's ACT.
 fn start_now(chip: Chip, c: Command, e: u64, g: Regs, a: u64) -> u64
@@ -20,13 +21,12 @@ fn start_now(chip: Chip, c: Command, e: u64, g: Regs, a: u64) -> u64
     ensures value { result ≡ was.start_now chip c e g a }
     ensures upper_bound { result ≤ far_edge }
 {
-    let k = rank_of(c);
     let al = chip::al_of(g);
-    if k == 2 {
+    if c == Command::Pre {
         return e;
     }
-    if k == 5 {
-        return most_of(a + chip.tras as u64, e + al as u64 + chip.trtp as u64);
+    if c == Command::Rd {
+        return (a + chip.tras as u64).max(e + al as u64 + chip.trtp as u64);
     }
     e + (al + chip::cwl_of(g)) as u64 + chip::h_of(g) as u64 + chip::wr_of(g) as u64
 }
@@ -48,59 +48,55 @@ fn place(c: Command, r: Record) -> usize
     ensures upper_bound { result < 16 }
 {
     let b = (r.bank % 8) as usize;
-    if rank_of(c) == 4 {
+    if c == Command::Wr {
         return b + 8;
     }
     b
 }
 
-// start: of the record's precharge.
-pub(crate) fn banks_next(
-    chip: Chip,
-    c: Command,
-    r: Record,
-    e: u64,
-    n: u32,
-    g: Regs,
-    start: u64,
-    banks: Banks,
-) -> Banks
-    requires small { Small chip }
-    requires start_value { start ≡ next.start_of chip c r e g banks }
-    ensures { result ≡ next.banks_next chip c r e n g banks }
-{
-    let actat = banks.actat;
-    let actno = banks.actno;
-    let actneed = banks.actneed;
-    let row = banks.row;
-    let colat = banks.colat;
-    let colno = banks.colno;
-    let colpre = banks.colpre;
-    let colturn = banks.colturn;
-    let colout = banks.colout;
-    let shutat = banks.shutat;
-    let shutno = banks.shutno;
-    let k = rank_of(c);
-    let act = k == 3;
-    let col = (k == 5) | (k == 4);
-    let rd = k == 5;
-    let a10 = r.a / 1024 % 2 == 1;
-    let all = (k == 2) & a10;
-    let shuts = (k == 2) | (((k == 5) | (k == 4)) & a10);
-    let b = (r.bank % 8) as usize;
-    let i = place(c, r);
-    let al = chip::al_of(g);
-    Banks {
-        actat: put8u64(act, actat, b, e),
-        actno: put8u32(act, actno, b, n),
-        actneed: put8u32(act, actneed, b, need4(chip.trcd, al)),
-        row: put8u16(act, row, b, r.a),
-        colat: put16u64(col, colat, i, e),
-        colno: put16u32(col, colno, i, n),
-        colpre: put16u32(col, colpre, i, one_of(rd, need10(chip, g), need11(chip, g))),
-        colturn: put16u32(col, colturn, i, one_of(rd, need13(g, r.a), need14(chip, g))),
-        colout: put16u32(col, colout, i, one_of(rd, need19(g, r.a), 0)),
-        shutat: allu64(all, e, put8u64(shuts, shutat, b, start)),
-        shutno: allu32(all, n, put8u32(shuts, shutno, b, n)),
+impl Event {
+    pub(crate) fn banks_next(self, n: u32, banks: Banks) -> Banks
+        requires { self.start ≡ next.start_of self.chip self.c self.r self.e self.g banks }
+        ensures { result ≡ next.banks_next self.chip self.c self.r self.e n self.g banks }
+    {
+        let act = self.c == Command::Act;
+        let pre = self.c == Command::Pre;
+        let rd = self.c == Command::Rd;
+        let wr = self.c == Command::Wr;
+        let a10 = self.r.a / 1024 % 2 == 1;
+        let col = rd | wr;
+        let all = pre & a10;
+        let shuts = pre | (col & a10);
+        let b = (self.r.bank % 8) as usize;
+        let i = place(self.c, self.r);
+        let al = chip::al_of(self.g);
+        Banks {
+            actat: put(act, banks.actat, b, self.e),
+            actno: put(act, banks.actno, b, n),
+            actneed: put(act, banks.actneed, b, need4(self.chip.trcd, al)),
+            row: put(act, banks.row, b, self.r.a),
+            colat: put(col, banks.colat, i, self.e),
+            colno: put(col, banks.colno, i, n),
+            colpre: put(
+                col,
+                banks.colpre,
+                i,
+                either(rd, need10(self.chip, self.g), need11(self.chip, self.g)),
+            ),
+            colturn: put(
+                col,
+                banks.colturn,
+                i,
+                either(rd, need13(self.g, self.r.a), need14(self.chip, self.g)),
+            ),
+            colout: put(
+                col,
+                banks.colout,
+                i,
+                either(rd, need19(self.g, self.r.a), 0),
+            ),
+            shutat: put_all(all, put(shuts, banks.shutat, b, self.start), self.e),
+            shutno: put_all(all, put(shuts, banks.shutno, b, n), n),
+        }
     }
 }

@@ -1,5 +1,6 @@
 // A rank's end: the verdict, the banks, the registers and the debt at an edge.
-ghost use Rattle.std.specs.Prelude.{cond, ◌≡◌, ltb, ◌+◌, ◌-◌, ◌/◌, ◌≤◌};
+ghost use Rattle.std.specs.List.{range_with_len};
+ghost use Rattle.std.specs.Prelude.{map, cond, ◌≡◌, ltb, ◌+◌, ◌-◌, ◌/◌, ◌≤◌};
 ghost use Rattle.answers.specs.Answer.{shown_of};
 ghost use Rattle.running.specs.Breaks.{status_of};
 ghost use Rattle.running.specs.Ends.{rest_of};
@@ -8,10 +9,11 @@ ghost use Rattle.running.specs.Ranges.{Small, last_edge, far_edge};
 ghost use Rattle.running.specs.Said as said;
 ghost use Rattle.edges.specs.Ends as ends;
 ghost use Rattle.edges.specs.Ranges.{Ranged};
+ghost use Rattle.edges.specs.Views as views;
 ghost use Rattle.rank.specs.Promises.{Ended};
 
 use crate::deadlines::{next24, next25, next28, next31};
-use crate::numbers::of_two;
+use crate::numbers::either;
 use crate::views::{kept_of, regs_of, written_of};
 use answers::{End, Shown, Verdict};
 use chip::Chip;
@@ -19,6 +21,7 @@ use edges::{Banks, Debt, Rank};
 use kept::{since, status};
 use running::{Kept, Late};
 use says::{clean_at, sooner, verdict_at, why};
+use std::array;
 use still::{in_range, is_small, no_end, registers_of};
 
 // The rank at the edge; zeros where a sum could wrap, or the edge is out of bounds.
@@ -45,12 +48,10 @@ fn closed(chip: Chip, s: Rank, end: u64) -> End
 {
     let v = verdict_of(chip, s, end);
     let t = rest(v, end);
-    let banks = banks_at(chip, s.banks, t);
-    let registers = registers_of(regs_of(s.device), written_of(s.device));
     End {
         verdict: v,
-        banks: banks,
-        registers: registers,
+        banks: banks_at(chip, s.banks, t),
+        registers: registers_of(regs_of(s.device), written_of(s.device)),
         owed: owed_now(chip, s.debt, t),
     }
 }
@@ -108,7 +109,7 @@ fn owed_now(chip: Chip, d: Debt, t: u64) -> u64
     requires due_le_far_edge { d.due ≤ far_edge }
     ensures { result ≡ ends.owed_at chip d t }
 {
-    let left = since(d.due, of_two(d.sleeps, 0, t));
+    let left = since(d.due, either(d.sleeps, 0, t));
     since(17, begun(left, chip.trefi))
 }
 
@@ -122,19 +123,9 @@ fn begun(left: u64, trefi: u32) -> u64
 }
 
 fn banks_at(chip: Chip, banks: Banks, t: u64) -> [Shown; 8]
-    ensures { result ≡ ends.banks_at chip banks t }
+    ensures { result ≡ map (λ b. shown_of (status_of (views.kept_of chip banks b) t)) (range_with_len 0 8) }
 {
-    let mut out = [Shown {
-        status: 0,
-        row: 0,
-        act: 0,
-    }; 8];
-    let mut i: usize = 0;
-    while i < 8 {
-        out[i] = shown_at(kept_of(chip, banks, i), t);
-        i += 1;
-    }
-    out
+    array::from_fn(|b| shown_at(kept_of(chip, banks, b), t))
 }
 
 fn shown_at(k: Kept, t: u64) -> Shown

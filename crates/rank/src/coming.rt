@@ -1,86 +1,64 @@
 // What a seldom command leaves behind.
-ghost use Rattle.std.specs.Prelude.{cond, ◌≡◌, ◌≤◌, get_or};
+ghost use Rattle.std.specs.Prelude.{◌≡◌, ◌≤◌, cond};
 ghost use Rattle.laws.specs.Eight.{table};
-ghost use Rattle.running.specs.Ranges.{Small, last_edge, far_edge};
-ghost use Rattle.edges.specs.Parts as device;
-ghost use Rattle.edges.specs.Lane as lane;
+ghost use Rattle.records.specs.declared.Command.TheVariants.{Pre};
+ghost use Rattle.records.specs.Command.{is_a};
+ghost use Rattle.running.specs.Ranges.{Small, far_edge};
+ghost use Rattle.edges.specs.Next as next;
+ghost use Rattle.rank.specs.Lane as lane;
 
 use crate::changes::{asked_by, floor_next, holds_next};
 use crate::device::device_next;
+use crate::lane::Lane;
 use crate::owing::debt_next;
-use crate::slow::slow_if;
+use crate::slow::slow_exit;
 use chip::Chip;
-use edges::{Debt, Floor};
-use records::{Command, Record, rank_of};
-
-// turned: the latest change of CKE.
-#[derive(Clone, Copy)]
-pub(crate) struct Left {
-    pub debt: Debt,
-    pub floor: Floor,
-    pub turned: u64,
-}
+use edges::{Banks, Debt};
+use records::{Command, Record};
 
 // A PRE of all banks: each precharge starts at the edge e, by record n.
-fn shut_all(shutat: &mut [u64; 8], shutno: &mut [u32; 8], yes: bool, e: u64, n: u32)
-    ensures shutat_after { shutat.new ≡ cond yes (table (λ _. e)) shutat.old }
-    ensures shutno_after { shutno.new ≡ cond yes (table (λ _. n)) shutno.old }
+fn shut_all(banks: &mut Banks, c: Command, e: u64, n: u32)
+    ensures { banks.new ≡ record banks.old { shutat = cond (is_a Pre c) (table (λ _. e)) banks.old.shutat; shutno = cond (is_a Pre c) (table (λ _. n)) banks.old.shutno } }
 {
-    if yes {
-        *shutat = [e; 8];
-        *shutno = [n; 8];
-        return;
+    match c {
+        Command::Pre => {
+            banks.shutat = [e; 8];
+            banks.shutno = [n; 8];
+        }
+        _ => {}
     }
 }
 
-// At the edge e, as record n.
-pub(crate) fn come(
-    actno: &[u32; 8],
-    shutat: &mut [u64; 8],
-    shutno: &mut [u32; 8],
-    holds: &mut [u64; 4],
-    at: &mut [u64; 9],
-    num: &mut [u32; 9],
-    need: &mut [u32; 9],
-    codes: &mut [u16; 4],
-    written: &mut [bool; 4],
-    chip: Chip,
-    debt: Debt,
-    f: Floor,
-    c: Command,
-    r: Record,
-    e: u64,
-    n: u32,
-) -> Left
+// Of the seldom commands only these move the debt.
+fn owed(debt: &mut Debt, chip: Chip, c: Command, e: u64)
     requires small { Small chip }
     requires e_le_far_edge { e ≤ far_edge }
-    requires due_le_far_edge { (debt.due ≤ far_edge) × (debt.gap ≤ far_edge) }
-    ensures leaves { lane.Leaves chip c r e n actno.now shutat.old shutno.old holds.old (device.device_by at.old num.old need.old codes.old written.old) debt f shutat.new shutno.new holds.new (device.device_by at.new num.new need.new codes.new written.new) result.debt result.floor result.turned }
-    ensures turned_le_last_edge { get_or at.old 6 0 ≤ last_edge → e ≤ last_edge → result.turned ≤ last_edge }
+    requires due_le_far_edge { (debt.old.due ≤ far_edge) × (debt.old.gap ≤ far_edge) }
+    ensures { debt.new ≡ next.debt_next chip c e debt.old }
 {
-    let k = asked_by(chip, c, r);
-    let i = rank_of(c);
-    let slow = slow_if(i == 14, actno, shutno, codes, written);
-    shut_all(shutat, shutno, i == 2, e, n);
-    *holds = holds_next(c, e, k, *holds);
-    device_next(
-        at,
-        num,
-        need,
-        codes,
-        written,
-        c,
-        r,
-        e,
-        n,
-        k,
-        chip.tcke,
-        slow,
-        chip.txpdll,
-    );
-    Left {
-        debt: debt_next(chip, c, e, debt),
-        floor: floor_next(c, r, e, k, slow, chip.txpdll, f),
-        turned: at[6],
+    match c {
+        Command::Ref | Command::Sre | Command::Srx => *debt = debt_next(chip, c, e, *debt),
+        _ => {}
+    }
+}
+
+impl Lane {
+    // The command c of the record r, at the edge e as record n.
+    pub(crate) fn come(&mut self, chip: Chip, c: Command, r: Record, e: u64, n: u32)
+        requires small { Small chip }
+        requires e_le_far_edge { e ≤ far_edge }
+        requires due_le_far_edge { (self.old.rank.debt.due ≤ far_edge) × (self.old.rank.debt.gap ≤ far_edge) }
+        ensures { lane.Leaves chip c r e n self.old self.new }
+    {
+        let k = asked_by(chip, c, r);
+        let slow = slow_exit(c, &self.rank);
+        shut_all(&mut self.rank.banks, c, e, n);
+        self.rank.waits.holds = holds_next(chip, c, r, e, k, self.rank.waits.holds);
+        device_next(&mut self.rank.device, chip, c, r, e, n, k, slow);
+        owed(&mut self.rank.debt, chip, c, e);
+        self.floor = floor_next(chip, c, r, e, k, slow, self.floor);
+        self.rank.level = r.cke;
+        self.rank.edge = e;
+        self.rank.count = n;
     }
 }

@@ -1,32 +1,28 @@
 // After a break the records are only counted.
 ghost use Rattle.std.specs.Prelude.{◌≡◌, ◌+◌, ◌-◌, ◌/◌};
 ghost use Rattle.chip.specs.declared.Chip.{Chip};
+ghost use Rattle.edges.specs.declared.Rank.{Rank};
+ghost use Rattle.edges.specs.Folded.{folded_as};
 ghost use Rattle.edges.specs.Folding as folding;
 
 use crate::quick::record_at;
-use edges::{Folded, Rank};
+use edges::Rank;
 
-// n: the rank after the records before at, broken. s: as it was before the section.
-pub(crate) fn counted(s: Rank, n: Rank, bytes: &[u8], from: usize) -> Folded
+// n: the rank after the records before from, broken; none where a step is 0.
+pub(crate) fn counted(n: Rank, bytes: &[u8], from: usize) -> Option<Rank>
     requires { folding.Counting n bytes.now from }
-    ensures { (C : Chip) → result ≡ folding.folded_from C s n bytes.now from }
+    ensures { (C : Chip) (s : Rank) → folded_as s result ≡ folding.folded_from C s n bytes.now from }
 {
     let mut m = n;
     let mut at = from;
     while at < bytes.len() {
         let r = record_at(bytes, at);
         if r.step == 0 {
-            return Folded {
-                zero: true,
-                rank: s,
-            };
+            return None;
         }
-        m.edge = m.edge + r.step;
-        m.count = m.count + 1;
+        m.edge += r.step;
+        m.count += 1;
         at += 6;
     }
-    Folded {
-        zero: false,
-        rank: m,
-    }
+    Some(m)
 }

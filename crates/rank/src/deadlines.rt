@@ -1,16 +1,19 @@
 // Deadlines: the edge at which each passes next after the latest record, at hi if it does not before.
-ghost use Rattle.std.specs.Prelude.{◌≡◌, ℕ, ◌≤◌, ◌<◌, get_or};
+ghost use Rattle.std.specs.Prelude.{◌≡◌, ℕ, ◌≤◌, ◌<◌, map, get_or};
+ghost use Rattle.std.specs.List.{range_with_len};
 ghost use Rattle.running.specs.Late as late;
 ghost use Rattle.running.specs.Next as next;
 ghost use Rattle.running.specs.Ranges.{Small, last_edge, far_edge};
 ghost use Rattle.edges.specs.Says as says;
+ghost use Rattle.edges.specs.Views as views;
 
-use crate::numbers::of_two;
+use crate::numbers::either;
 use crate::views::kept_of;
 use chip::Chip;
 use edges::{Banks, Debt};
 use running::{Kept, Late};
 use says::{late_by, soonest};
+use std::array;
 
 // The edge at which the bank breaks rule 24, or 0.
 fn due(chip: Chip, k: Kept) -> u64
@@ -31,15 +34,18 @@ fn due(chip: Chip, k: Kept) -> u64
 fn dues_of(chip: Chip, banks: Banks) -> [u64; 8]
     requires small { Small chip }
     requires by_index { (b : ℕ) → b < 8 → get_or banks.actat b 0 ≤ last_edge }
-    ensures { result ≡ says.dues_of chip banks }
+    ensures { result ≡ map (λ b. next.due chip (views.kept_of chip banks b)) (range_with_len 0 8) }
 {
-    let mut out = [0u64; 8];
-    let mut i: usize = 0;
-    while i < 8 {
-        out[i] = due(chip, kept_of(chip, banks, i));
-        i += 1;
-    }
-    out
+    array::from_fn(|b| due_at(chip, banks, b))
+}
+
+fn due_at(chip: Chip, banks: Banks, b: usize) -> u64
+    requires small { Small chip }
+    requires place { b < 8 }
+    requires by_index { (b : ℕ) → b < 8 → get_or banks.actat b 0 ≤ last_edge }
+    ensures { result ≡ next.due chip (views.kept_of chip banks b) }
+{
+    due(chip, kept_of(chip, banks, b))
 }
 
 // Rule 24 after the edge lo and before hi; at hi if there is none.
@@ -59,7 +65,7 @@ pub(crate) fn next25(d: Debt, partner: u32, hi: u64) -> Late
     ensures { result ≡ says.next25 d partner hi }
 {
     Late {
-        at: of_two(d.sleeps, hi, d.due),
+        at: either(d.sleeps, hi, d.due),
         rule: 25,
         partner: partner as u64,
         needed: 8,
@@ -94,5 +100,5 @@ pub(crate) fn next28(chip: Chip, level: bool, sleeps: bool, at: u64, no: u32, hi
 pub(crate) fn next31(chip: Chip, d: Debt, partner: u32, hi: u64) -> Late
     ensures { result ≡ says.next31 chip d partner hi }
 {
-    late_by(31, of_two(d.sleeps, hi, d.gap), partner, chip.nine)
+    late_by(31, either(d.sleeps, hi, d.gap), partner, chip.nine)
 }

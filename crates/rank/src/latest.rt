@@ -1,32 +1,16 @@
 // The last four ACTs, and the latest records that concern the device, after a record.
 ghost use Rattle.std.specs.Prelude.{◌≡◌, ℕ, ◌≤◌, ◌<◌, get_or};
 ghost use Rattle.running.specs.Next as was;
-ghost use Rattle.running.specs.Ranges.{Small, last_edge};
+ghost use Rattle.running.specs.Ranges.{last_edge};
 ghost use Rattle.edges.specs.Asks as asks;
 ghost use Rattle.edges.specs.Next as next;
 
-use crate::asked::need18;
-use crate::numbers::of_two;
-use crate::placed::{put4bool, put4u16, put4u32, put4u64, put9u32, put9u64};
+use crate::asked::{Event, need18};
+use crate::numbers::either;
+use crate::placed::put;
 use chip::Chip;
 use edges::{Acts, Device};
-use records::{Command, Record, rank_of};
-
-pub(crate) fn acts_next(c: Command, e: u64, n: u32, acts: Acts) -> Acts
-    requires { acts.turn ≤ 3 }
-    ensures { result ≡ next.acts_next c e n acts }
-{
-    let at = acts.at;
-    let no = acts.no;
-    let turn = acts.turn;
-    let act = rank_of(c) == 3;
-    let i = turn as usize;
-    Acts {
-        at: put4u64(act, at, i, e),
-        no: put4u32(act, no, i, n),
-        turn: of_two(act, (turn + 1) % 4, turn),
-    }
-}
+use records::{Command, Record};
 
 // What rule 8 asks after an ACT.
 pub(crate) fn four_back(chip: Chip, acts: Acts) -> u64
@@ -37,100 +21,83 @@ pub(crate) fn four_back(chip: Chip, acts: Acts) -> u64
     let at = acts.at;
     let no = acts.no;
     let i = ((acts.turn + 1) % 4) as usize;
-    of_two(no[i] == 0, 0, at[i] + chip.tfaw as u64)
+    either(no[i] == 0, 0, at[i] + chip.tfaw as u64)
 }
 
 pub(crate) fn resets_now(c: Command, r: Record) -> bool
     ensures { result ≡ was.resets_now c r }
 {
-    ((rank_of(c) == 0) & (r.bank % 8 == 0)) & (r.a / 256 % 2 == 1)
+    ((c == Command::Mrs) & (r.bank % 8 == 0)) & (r.a / 256 % 2 == 1)
 }
 
-fn stamped_edge(c: Command, r: Record, xs: [u64; 9], e: u64) -> [u64; 9]
-    ensures { result ≡ next.stamped c r xs e e e e e e }
-{
-    let k = rank_of(c);
-    let resets = resets_now(c, r);
-    let x0 = put9u64(k == 1, xs, 0, e);
-    let x1 = put9u64(k == 0, x0, 1, e);
-    let x2 = put9u64(k == 6, x1, 2, e);
-    let x3 = put9u64(k == 9, x2, 3, e);
-    let x4 = put9u64(k == 10, x3, 4, e);
-    put9u64(resets, x4, 5, e)
-}
-
-fn stamped(
+// Of the latest REF, MRS, ZQ, SRE, SRX and DLL reset.
+fn stamped<T: Copy>(
     c: Command,
     r: Record,
-    xs: [u32; 9],
-    refs: u32,
-    mrs: u32,
-    zq: u32,
-    sre: u32,
-    srx: u32,
-    dll: u32,
-) -> [u32; 9]
+    xs: [T; 9],
+    refs: T,
+    mrs: T,
+    zq: T,
+    sre: T,
+    srx: T,
+    dll: T,
+) -> [T; 9]
     ensures { result ≡ next.stamped c r xs refs mrs zq sre srx dll }
 {
-    let k = rank_of(c);
-    let resets = resets_now(c, r);
-    let x0 = put9u32(k == 1, xs, 0, refs);
-    let x1 = put9u32(k == 0, x0, 1, mrs);
-    let x2 = put9u32(k == 6, x1, 2, zq);
-    let x3 = put9u32(k == 9, x2, 3, sre);
-    let x4 = put9u32(k == 10, x3, 4, srx);
-    put9u32(resets, x4, 5, dll)
+    let x0 = put(c == Command::Ref, xs, 0, refs);
+    let x1 = put(c == Command::Mrs, x0, 1, mrs);
+    let x2 = put(c == Command::Zq, x1, 2, zq);
+    let x3 = put(c == Command::Sre, x2, 3, sre);
+    let x4 = put(c == Command::Srx, x3, 4, srx);
+    put(resets_now(c, r), x4, 5, dll)
 }
 
-// The latest change of CKE, power-down exit and slow one.
-fn turned_edge(c: Command, slow: bool, xs: [u64; 9], e: u64) -> [u64; 9]
-    ensures { result ≡ next.turned_to c slow xs e e e }
-{
-    let k = rank_of(c);
-    let x6 = put9u64((k == 9) | ((k == 10) | ((k == 13) | (k == 14))), xs, 6, e);
-    let x7 = put9u64(k == 14, x6, 7, e);
-    put9u64((k == 14) & slow, x7, 8, e)
-}
-
-fn turned(c: Command, slow: bool, xs: [u32; 9], cke: u32, pdx: u32, late: u32) -> [u32; 9]
+// Of the latest change of CKE, power-down exit and slow one.
+fn turned<T: Copy>(c: Command, slow: bool, xs: [T; 9], cke: T, pdx: T, late: T) -> [T; 9]
     ensures { result ≡ next.turned_to c slow xs cke pdx late }
 {
-    let k = rank_of(c);
-    let x6 = put9u32((k == 9) | ((k == 10) | ((k == 13) | (k == 14))), xs, 6, cke);
-    let x7 = put9u32(k == 14, x6, 7, pdx);
-    put9u32((k == 14) & slow, x7, 8, late)
+    let left = c == Command::Pdx;
+    let sleeps = (c == Command::Sre) | (c == Command::Srx);
+    let x6 = put(sleeps | ((c == Command::Pde) | left), xs, 6, cke);
+    let x7 = put(left, x6, 7, pdx);
+    put(left & slow, x7, 8, late)
 }
 
-// slow: an exit is one of precharge power-down with MR0 A12 = 0.
-pub(crate) fn device_next(
-    chip: Chip,
-    c: Command,
-    r: Record,
-    e: u64,
-    n: u32,
-    slow: bool,
-    d: Device,
-) -> Device
-    requires { Small chip }
-    ensures { result ≡ next.device_next chip c r e n slow d }
-{
-    let at = d.at;
-    let no = d.no;
-    let need = d.need;
-    let codes = d.codes;
-    let written = d.written;
-    let mrs = rank_of(c) == 0;
-    let i = (r.bank % 8 % 4) as usize;
-    let zq = need18(chip, r);
-    let sre = chip.tcke + 1;
-    let at6 = stamped_edge(c, r, at, e);
-    let no6 = stamped(c, r, no, n, n, n, n, n, n);
-    let need6 = stamped(c, r, need, chip.trfc, 4, zq, sre, chip.txs, 512);
-    Device {
-        at: turned_edge(c, slow, at6, e),
-        no: turned(c, slow, no6, n, n, n),
-        need: turned(c, slow, need6, chip.tcke, chip.txp, chip.txpdll),
-        codes: put4u16(mrs, codes, i, r.a),
-        written: put4bool(mrs, written, i),
+impl Event {
+    pub(crate) fn acts_next(self, n: u32, acts: Acts) -> Acts
+        requires { acts.turn ≤ 3 }
+        ensures { result ≡ next.acts_next self.c self.e n acts }
+    {
+        let act = self.c == Command::Act;
+        let turn = acts.turn;
+        let i = turn as usize;
+        Acts {
+            at: put(act, acts.at, i, self.e),
+            no: put(act, acts.no, i, n),
+            turn: either(act, (turn + 1) % 4, turn),
+        }
+    }
+
+    pub(crate) fn device_next(self, n: u32, d: Device) -> Device
+        ensures { result ≡ next.device_next self.chip self.c self.r self.e n self.slow d }
+    {
+        let c = self.c;
+        let r = self.r;
+        let e = self.e;
+        let chip = self.chip;
+        let mrs = c == Command::Mrs;
+        let i = (r.bank % 8 % 4) as usize;
+        let zq = need18(chip, r);
+        let sre = chip.tcke + 1;
+        let at6 = stamped(c, r, d.at, e, e, e, e, e, e);
+        let no6 = stamped(c, r, d.no, n, n, n, n, n, n);
+        let need6 = stamped(c, r, d.need, chip.trfc, 4, zq, sre, chip.txs, 512);
+        Device {
+            at: turned(c, self.slow, at6, e, e, e),
+            no: turned(c, self.slow, no6, n, n, n),
+            need: turned(c, self.slow, need6, chip.tcke, chip.txp, chip.txpdll),
+            codes: put(mrs, d.codes, i, r.a),
+            written: put(mrs, d.written, i, true),
+        }
     }
 }

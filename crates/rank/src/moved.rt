@@ -4,13 +4,13 @@ ghost use Rattle.running.specs.Ranges.{Small, limit};
 ghost use Rattle.edges.specs.Ranges.{Ranged};
 ghost use Rattle.edges.specs.Step as step;
 
-use crate::banks::{banks_next, start_of};
+use crate::asked::Event;
+use crate::banks::start_of;
 use crate::clocks::regs_of;
-use crate::latest::{acts_next, device_next, four_back};
+use crate::latest::four_back;
 use crate::owing::debt_next;
 use crate::said::said;
 use crate::slow::slow_now;
-use crate::waiting::waits_next;
 use answers::Verdict;
 use chip::Chip;
 use edges::Rank;
@@ -26,30 +26,36 @@ fn moved(chip: Chip, s: Rank, r: Record) -> Rank
     let e = s.edge + r.step;
     let n = s.count + 1;
     let c = command_of(s.level, s.debt.sleeps, r);
-    let codes = s.device.codes;
-    let first = s.first;
-    let g = regs_of(codes);
+    let g = regs_of(s.device.codes);
     let start = start_of(chip, c, r, e, g, s.banks);
     let four = four_back(chip, s.acts);
-    let actno = s.banks.actno;
-    let shutno = s.banks.shutno;
-    let written = s.device.written;
-    let slow = slow_now(actno, shutno, codes, written);
+    let slow = slow_now(
+        s.banks.actno,
+        s.banks.shutno,
+        s.device.codes,
+        s.device.written,
+    );
     let debt = debt_next(chip, c, e, s.debt);
-    let banks = banks_next(chip, c, r, e, n, g, start, s.banks);
-    let waits = waits_next(chip, c, r, e, g, start, four, slow, s.waits);
-    let acts = acts_next(c, e, n, s.acts);
-    let device = device_next(chip, c, r, e, n, slow, s.device);
+    let event = Event {
+        chip,
+        c,
+        r,
+        e,
+        g,
+        start,
+        four,
+        slow,
+    };
     Rank {
         edge: e,
         count: n,
-        first: first,
+        first: s.first,
         level: r.cke,
         debt: debt,
-        banks: banks,
-        waits: waits,
-        acts: acts,
-        device: device,
+        banks: event.banks_next(n, s.banks),
+        waits: event.waits_next(s.waits),
+        acts: event.acts_next(n, s.acts),
+        device: event.device_next(n, s.device),
     }
 }
 

@@ -1,25 +1,7 @@
 // Small functions of numbers.
-ghost use Rattle.std.specs.Prelude.{◌≡◌, cond, ◌≤◌, max, min};
+ghost use Rattle.std.specs.Prelude.{◌≡◌, cond, ◌≤◌};
 
-pub(crate) fn most_of(a: u64, b: u64) -> u64
-    ensures { result ≡ max a b }
-{
-    if a < b {
-        return b;
-    }
-    a
-}
-
-pub(crate) fn least_of(a: u64, b: u64) -> u64
-    ensures { result ≡ min a b }
-{
-    if a < b {
-        return a;
-    }
-    b
-}
-
-pub(crate) fn one_of(yes: bool, a: u32, b: u32) -> u32
+pub(crate) fn either<T: Copy>(yes: bool, a: T, b: T) -> T
     ensures { result ≡ cond yes a b }
 {
     if yes {
@@ -36,13 +18,4 @@ pub(crate) fn if_so(yes: bool, a: u64) -> u64
         return a;
     }
     0
-}
-
-pub(crate) fn of_two(yes: bool, a: u64, b: u64) -> u64
-    ensures { result ≡ cond yes a b }
-{
-    if yes {
-        return a;
-    }
-    b
 }

@@ -3,11 +3,11 @@ ghost use Rattle.std.specs.Prelude.{◌≡◌, cond, ◌≤◌};
 ghost use Rattle.running.specs.Ranges.{Small, far_edge};
 ghost use Rattle.edges.specs.Next as next;
 
-use crate::numbers::of_two;
+use crate::numbers::either;
 use chip::Chip;
 use edges::Debt;
 use kept::since;
-use records::{Command, rank_of};
+use records::Command;
 
 fn counting(sleeps: bool, e: u64) -> u64
     ensures value { result ≡ cond sleeps 0 e }
@@ -37,24 +37,23 @@ pub(crate) fn debt_next(chip: Chip, c: Command, e: u64, d: Debt) -> Debt
     requires due_le_far_edge { (d.due ≤ far_edge) × (d.gap ≤ far_edge) }
     ensures { result ≡ next.debt_next chip c e d }
 {
-    let k = rank_of(c);
     let from = counting(d.sleeps, e);
-    if k == 1 {
+    if c == Command::Ref {
         return Debt {
             sleeps: d.sleeps,
             due: paid(chip.trefi, from, d.due),
             gap: from + chip.nine as u64 + 1,
         };
     }
-    if k == 9 {
+    if c == Command::Sre {
         return Debt {
             sleeps: true,
             due: since(d.due, from),
             gap: since(d.gap, from),
         };
     }
-    if k == 10 {
-        let to = of_two(d.sleeps, e, 0);
+    if c == Command::Srx {
+        let to = either(d.sleeps, e, 0);
         return Debt {
             sleeps: false,
             due: d.due + to,

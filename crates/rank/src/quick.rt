@@ -1,182 +1,143 @@
 // The frequent commands, one after the other, up to a record that is none of them or may not be fine.
-ghost use Rattle.std.specs.Prelude.{◌≡◌, ◌+◌, ◌≤◌, length};
+ghost use Rattle.std.specs.Prelude.{◌≡◌, ◌+◌, ◌≤◌, ◌<◌, true, false, length};
 ghost use Rattle.records.specs.Record.{record_at};
 ghost use Rattle.edges.specs.Running as running;
+ghost use Rattle.rank.specs.Lane as lane;
 
-use crate::numbers::of_two;
-use crate::ways::{
-    act_asks, acted, col_start, column, four_of, may_activate, may_column, may_precharge, ringed,
-    shut,
-};
+use crate::device::DLL;
+use crate::lane::Lane;
+use crate::ways::col_start;
 use chip::Chip;
-use edges::Floor;
+use edges::Device;
 use records::Record;
 use running::Asks;
-
-// How far it came, and the floor.
-#[derive(Clone, Copy)]
-pub(crate) struct Ran {
-    pub edge: u64,
-    pub count: u32,
-    pub turn: usize,
-    pub at: usize,
-    pub floor: Floor,
-}
 
 pub(crate) fn record_at(bytes: &[u8], at: usize) -> Record
     requires { at + 6 ≤ length bytes.now }
     ensures { result ≡ record_at bytes.now at }
 {
-    records::decode(
+    records::decode([
         bytes[at],
         bytes[at + 1],
         bytes[at + 2],
         bytes[at + 3],
         bytes[at + 4],
         bytes[at + 5],
-    )
+    ])
 }
 
-// w: what the registers ask. written, dll: all four are, the DLL was reset. clear: the edge before which no deadline passes. turn: the
-// place of the oldest of the last four ACTs.
-pub(crate) fn quick(
-    actat: &mut [u64; 8],
-    actno: &mut [u32; 8],
-    actneed: &mut [u32; 8],
-    row: &mut [u16; 8],
-    colat: &mut [u64; 16],
-    colno: &mut [u32; 16],
-    colpre: &mut [u32; 16],
-    colturn: &mut [u32; 16],
-    colout: &mut [u32; 16],
-    shutat: &mut [u64; 8],
-    shutno: &mut [u32; 8],
-    act: &mut [u64; 8],
-    col: &mut [u64; 16],
-    pre: &mut [u64; 8],
-    ringat: &mut [u64; 4],
-    ringno: &mut [u32; 4],
-    floor: Floor,
-    chip: Chip,
-    w: Asks,
-    written: bool,
-    dll: bool,
-    clear: u64,
-    edge: u64,
-    count: u32,
-    oldest: usize,
-    bytes: &[u8],
-    from: usize,
-) -> Ran
-    requires { running.Standing chip clear bytes.now from (running.track_of edge count actat.old actno.old actneed.old row.old colat.old colno.old colpre.old colturn.old colout.old shutat.old shutno.old act.old col.old pre.old ringat.old ringno.old oldest floor) }
-    ensures { running.Quickly chip w written dll clear bytes.now (running.track_of edge count actat.old actno.old actneed.old row.old colat.old colno.old colpre.old colturn.old colout.old shutat.old shutno.old act.old col.old pre.old ringat.old ringno.old oldest floor) from (running.track_of result.edge result.count actat.new actno.new actneed.new row.new colat.new colno.new colpre.new colturn.new colout.new shutat.new shutno.new act.new col.new pre.new ringat.new ringno.new result.turn result.floor) result.at }
+fn all_written(device: &Device) -> bool
+    ensures { result ≡ running.all_written device.now }
 {
-    let mut e = edge;
-    let mut no = count;
-    let mut turn = oldest;
-    let mut at = from;
-    let mut f = floor;
-    while at < bytes.len() {
-        let r = record_at(bytes, at);
-        let e1 = e + r.step;
-        let no1 = no + 1;
+    let set = &device.written;
+    set[0] & (set[1] & (set[2] & set[3]))
+}
+
+impl Lane {
+    // Each of these answers whether the record r is fine at the edge e, behind n records; if it is, it comes. (n + 1 is left to them: that is
+    // faster.)
+    fn precharge(&mut self, chip: Chip, w: Asks, r: Record, e: u64, n: u32) -> bool
+        requires pins { r.pins ≡ 2 }
+        requires near { lane.Near self.old e n }
+        ensures came { result ≡ true → lane.Goes chip w r e (n + 1) self.old self.new }
+        ensures unmoved { result ≡ false → self.new ≡ self.old }
+    {
         let b = (r.bank % 8) as usize;
-        let q = r.pins;
-        if ((r.step == 0) | (clear <= e1)) | (!r.cke | (q < 2)) {
-            return Ran {
-                edge: e,
-                count: no,
-                turn: turn,
-                at: at,
-                floor: f,
-            };
+        if (r.a / 1024 % 2 == 1) | !self.may_precharge(b, e) {
+            return false;
         }
-        if q < 4 {
-            if q == 2 {
-                if (r.a / 1024 % 2 == 1)
-                    | !may_precharge(shutno[b], actno[b], shutat[b], pre[b], f.pre, e1)
-                {
-                    return Ran {
-                        edge: e,
-                        count: no,
-                        turn: turn,
-                        at: at,
-                        floor: f,
-                    };
-                }
-                f = shut(shutat, shutno, act, f, chip.trp, b, e1, no1);
-                at += 6;
-                e = e1;
-                no = no1;
-                continue;
-            }
-            if !written | !may_activate(shutno[b], actno[b], shutat[b], act[b], f.act, e1) {
-                return Ran {
-                    edge: e,
-                    count: no,
-                    turn: turn,
-                    at: at,
-                    floor: f,
-                };
-            }
-            let four = four_of(ringat, ringno, turn, chip.tfaw);
-            acted(actat, actno, actneed, row, w.n4, b, r.a, e1, no1);
-            ringed(ringat, ringno, turn, e1, no1);
-            f = act_asks(
-                act, col, pre, f, w.n4, chip.trc, chip.tras, chip.trrd, four, b, e1,
-            );
-            turn = (turn + 1) % 4;
-            at += 6;
-            e = e1;
-            no = no1;
-            continue;
-        }
-        if q < 6 {
-            let y = (5 - q) as usize;
-            let rd = y == 0;
-            let i = y * 8 + b;
-            let fl = of_two(rd, f.rd, f.wr);
-            if (rd & !dll) | !may_column(shutno[b], actno[b], col[i], fl, e1) {
-                return Ran {
-                    edge: e,
-                    count: no,
-                    turn: turn,
-                    at: at,
-                    floor: f,
-                };
-            }
-            let long = r.a / 4096 % 2 == 1;
-            f = column(
-                colat, colno, colpre, colturn, colout, pre, f, w, b, y, long, e1, no1,
-            );
-            at += 6;
-            e = e1;
-            no = no1;
-            if r.a / 1024 % 2 == 1 {
-                let start = col_start(w, chip.tras, rd, e1, actat[b]);
-                f = shut(shutat, shutno, act, f, chip.trp, b, start, no1);
-                continue;
-            }
-            continue;
-        }
-        if q == 6 {
-            return Ran {
-                edge: e,
-                count: no,
-                turn: turn,
-                at: at,
-                floor: f,
-            };
-        }
-        at += 6;
-        e = e1;
-        no = no1;
+        self.shut(chip.trp, b, e, n + 1);
+        true
     }
-    Ran {
-        edge: e,
-        count: no,
-        turn: turn,
-        at: at,
-        floor: f,
+
+    fn activate(&mut self, chip: Chip, w: Asks, r: Record, e: u64, n: u32) -> bool
+        requires pins { r.pins ≡ 3 }
+        requires near { lane.Near self.old e n }
+        ensures came { result ≡ true → lane.Goes chip w r e (n + 1) self.old self.new }
+        ensures unmoved { result ≡ false → self.new ≡ self.old }
+    {
+        let b = (r.bank % 8) as usize;
+        if !all_written(&self.rank.device) | !self.may_activate(b, e) {
+            return false;
+        }
+        self.act(chip, w, b, r.a, e, n + 1);
+        true
+    }
+
+    fn read_or_write(&mut self, chip: Chip, w: Asks, r: Record, e: u64, n: u32) -> bool
+        requires pins { (4 ≤ r.pins) × (r.pins < 6) }
+        requires near { lane.Near self.old e n }
+        ensures came { result ≡ true → lane.Goes chip w r e (n + 1) self.old self.new }
+        ensures unmoved { result ≡ false → self.new ≡ self.old }
+    {
+        let b = (r.bank % 8) as usize;
+        let y = (5 - r.pins) as usize;
+        let reset = self.rank.device.no[DLL] != 0;
+        if ((y == 0) & !reset) | !self.may_column(b, y, e) {
+            return false;
+        }
+        self.column(w, b, y, r.a / 4096 % 2 == 1, e, n + 1);
+        if r.a / 1024 % 2 == 1 {
+            let start = col_start(w, chip.tras, y == 0, e, self.rank.banks.actat[b]);
+            self.shut(chip.trp, b, start, n + 1);
+            return true;
+        }
+        true
+    }
+
+    fn frequent(&mut self, chip: Chip, w: Asks, r: Record, e: u64, n: u32) -> bool
+        requires pins { 2 ≤ r.pins }
+        requires near { lane.Near self.old e n }
+        ensures came { result ≡ true → lane.Goes chip w r e (n + 1) self.old self.new }
+        ensures unmoved { result ≡ false → self.new ≡ self.old }
+    {
+        // A NOP or DES first: many recordings hold little else.
+        if 6 < r.pins {
+            return true;
+        }
+        if r.pins < 4 {
+            if r.pins == 2 {
+                return self.precharge(chip, w, r, e, n);
+            }
+            return self.activate(chip, w, r, e, n);
+        }
+        if r.pins < 6 {
+            return self.read_or_write(chip, w, r, e, n);
+        }
+        false
+    }
+
+    // w: what the registers ask. clear: the edge before which no deadline passes. By index, as are the other loops over bytes: each goes on
+    // where one stopped.
+    pub(crate) fn quick(
+        &mut self,
+        chip: Chip,
+        w: Asks,
+        clear: u64,
+        bytes: &[u8],
+        from: usize,
+    ) -> usize
+        requires { running.Standing chip clear bytes.now from (lane.track self.old) }
+        ensures { lane.Came chip w clear bytes.now self.old (lane.track self.old) from self.new (lane.track self.new) result }
+    {
+        let mut at = from;
+        let mut edge = self.rank.edge;
+        let mut n = self.rank.count;
+        while at < bytes.len() {
+            let r = record_at(bytes, at);
+            let e = edge + r.step;
+            if ((r.step == 0) | (clear <= e)) | (!r.cke | (r.pins < 2)) {
+                break;
+            }
+            if !self.frequent(chip, w, r, e, n) {
+                break;
+            }
+            at += 6;
+            n += 1;
+            edge = e;
+        }
+        self.rank.edge = edge;
+        self.rank.count = n;
+        at
     }
 }

@@ -10,7 +10,7 @@ ghost use Rattle.edges.specs.Says as says;
 ghost use Rattle.edges.specs.Views.{kepts_of};
 
 use crate::deadlines::{next24, next25, next28, next31};
-use crate::numbers::{most_of, of_two};
+use crate::numbers::either;
 use crate::views::{kept_of, kepts, shared_of, written_of};
 use answers::{Break, Verdict};
 use chip::Chip;
@@ -19,7 +19,7 @@ use kept::{
     barred, exit_rules, first_barred, joined, last_rules, or_else, rule3, rule26, rule27, spacings,
     speaks_of_all,
 };
-use records::{Command, Record, command_of, rank_of};
+use records::{Command, Record, command_of};
 use running::{Late, Shared};
 use says::{first, late_at, sooner, verdict_at, why};
 
@@ -29,10 +29,8 @@ fn greatest(xs: [u64; 8]) -> u64
     ensures { result ≡ asks.greatest xs 8 }
 {
     let mut most: u64 = 0;
-    let mut i: usize = 0;
-    while i < 8 {
-        most = most_of(most, xs[i]);
-        i += 1;
+    for &x in &xs {
+        most = most.max(x);
     }
     most
 }
@@ -50,19 +48,19 @@ fn wait_for(w: Waits, c: Command, r: Record) -> u64
     match c {
         Command::Mrs => holds[1],
         Command::Ref => holds[0],
-        Command::Pre => of_two(r.a / 1024 % 2 == 1, greatest(pre), pre[b]),
+        Command::Pre => either(r.a / 1024 % 2 == 1, greatest(pre), pre[b]),
         Command::Act => act[b],
         Command::Wr => col[i],
         Command::Rd => col[b],
         Command::Zq => holds[2],
-        Command::Nop => 0,
-        Command::Des => 0,
         Command::Sre => holds[3],
-        Command::Srx => 0,
-        Command::Low => 0,
-        Command::Bad => 0,
-        Command::Pde => 0,
-        Command::Pdx => 0,
+        Command::Nop
+        | Command::Des
+        | Command::Srx
+        | Command::Low
+        | Command::Bad
+        | Command::Pde
+        | Command::Pdx => 0,
     }
 }
 
@@ -111,10 +109,10 @@ fn broken_in(chip: Chip, s: Rank, c: Command, r: Record, e: u64) -> Break
 fn entered(chip: Chip, s: Rank, c: Command, shared: Shared, e: u64) -> Break
     ensures { result ≡ down.rule26 chip c (kepts_of chip s.banks) shared e }
 {
-    if rank_of(c) != 13 {
-        return Break::Fine;
+    if c == Command::Pde {
+        return rule26(chip, c, kepts(chip, s.banks), shared, e);
     }
-    rule26(chip, c, kepts(chip, s.banks), shared, e)
+    Break::Fine
 }
 
 fn turns(level: bool, cke: bool) -> bool
@@ -153,7 +151,7 @@ fn left_in(chip: Chip, s: Rank, c: Command, r: Record, e: u64) -> Break
 fn owing(c: Command, e: u64, x: Late) -> Break
     ensures { result ≡ says.owing c e x }
 {
-    if (x.at <= e) & !(rank_of(c) == 1) {
+    if (x.at <= e) & (c != Command::Ref) {
         return why(x);
     }
     Break::Fine

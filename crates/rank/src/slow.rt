@@ -2,16 +2,20 @@
 ghost use Rattle.std.specs.Prelude.{true, false, not, ◌&&◌, ◌≡◌, ltb, get_or};
 ghost use Rattle.laws.specs.Any.{any_of};
 ghost use Rattle.codes.specs.Codes.{set};
+ghost use Rattle.records.specs.declared.Command.TheVariants.{Pdx};
+ghost use Rattle.records.specs.Command.{is_a};
+ghost use Rattle.edges.specs.Next.{slow_now};
 
-// Is a bank open?
+use edges::Rank;
+use records::Command;
+
+// Is a bank open? By `for`: with `any` the check did not find it equal to `any_of`.
 fn any_open(actno: [u32; 8], shutno: [u32; 8]) -> bool
     ensures { result ≡ any_of (λ b. ltb (get_or shutno b 0) (get_or actno b 0)) 8 }
 {
     let mut open = false;
-    let mut i: usize = 0;
-    while i < 8 {
-        open = open | (shutno[i] < actno[i]);
-        i += 1;
+    for b in 0..8 {
+        open = open | (shutno[b] < actno[b]);
     }
     open
 }
@@ -28,17 +32,16 @@ pub(crate) fn slow_now(
 }
 
 // Worked out where it is asked for.
-pub(crate) fn slow_if(
-    yes: bool,
-    actno: &[u32; 8],
-    shutno: &[u32; 8],
-    codes: &[u16; 4],
-    written: &[bool; 4],
-) -> bool
-    ensures { yes ≡ true → result ≡ get_or written.now 0 false && (not (set (get_or codes.now 0 0) 12) && not (any_of (λ b. ltb (get_or shutno.now b 0) (get_or actno.now b 0)) 8)) }
+pub(crate) fn slow_exit(c: Command, s: &Rank) -> bool
+    ensures { is_a Pdx c ≡ true → result ≡ slow_now s.now.banks s.now.device }
 {
-    if yes {
-        return slow_now(*actno, *shutno, *codes, *written);
+    match c {
+        Command::Pdx => slow_now(
+            s.banks.actno,
+            s.banks.shutno,
+            s.device.codes,
+            s.device.written,
+        ),
+        _ => false,
     }
-    false
 }

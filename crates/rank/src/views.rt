@@ -1,11 +1,13 @@
 // What is kept, as the rules ask for it: the marks of a bank, and those that all banks share.
-ghost use Rattle.std.specs.Prelude.{◌≡◌, cond, ◌≤◌, ◌<◌, ltb, get_or};
+ghost use Rattle.std.specs.Prelude.{◌≡◌, cond, ◌≤◌, ◌<◌, ltb, map, get_or};
+ghost use Rattle.std.specs.List.{range_with_len};
 ghost use Rattle.edges.specs.Views as views;
 
 use chip::{Chip, Regs};
 use edges::{Acts, Banks, Device};
 use kept::needing;
 use running::{Debt, Kept, Mark, Read, Rests, Shared, Written, Wrote};
+use std::array;
 
 // ── A bank ──────────────────────────────────────────────────────────────────────────────────
 
@@ -13,56 +15,37 @@ pub(crate) fn kept_of(chip: Chip, banks: Banks, b: usize) -> Kept
     requires { b < 8 }
     ensures { result ≡ views.kept_of chip banks b }
 {
-    let actat = banks.actat;
-    let actno = banks.actno;
-    let actneed = banks.actneed;
-    let row = banks.row;
-    let colat = banks.colat;
-    let colno = banks.colno;
-    let colpre = banks.colpre;
-    let shutat = banks.shutat;
-    let shutno = banks.shutno;
     let i = b + 8;
-    let acted = Mark {
-        at: actat[b],
-        num: actno[b],
-        need: actneed[b],
-    };
-    let read = Mark {
-        at: colat[b],
-        num: colno[b],
-        need: colpre[b],
-    };
-    let wrote = Mark {
-        at: colat[i],
-        num: colno[i],
-        need: colpre[i],
-    };
     let shut = Mark {
-        at: shutat[b],
-        num: shutno[b],
+        at: banks.shutat[b],
+        num: banks.shutno[b],
         need: 0,
     };
     Kept {
-        acted: acted,
-        row: row[b],
-        read: read,
-        wrote: wrote,
+        acted: Mark {
+            at: banks.actat[b],
+            num: banks.actno[b],
+            need: banks.actneed[b],
+        },
+        row: banks.row[b],
+        read: Mark {
+            at: banks.colat[b],
+            num: banks.colno[b],
+            need: banks.colpre[b],
+        },
+        wrote: Mark {
+            at: banks.colat[i],
+            num: banks.colno[i],
+            need: banks.colpre[i],
+        },
         shut: needing(chip.trp, shut),
     }
 }
 
 pub(crate) fn kepts(chip: Chip, banks: Banks) -> [Kept; 8]
-    ensures { result ≡ views.kepts_of chip banks }
+    ensures { result ≡ map (λ b. views.kept_of chip banks b) (range_with_len 0 8) }
 {
-    let first = kept_of(chip, banks, 0);
-    let mut out = [first; 8];
-    let mut i: usize = 0;
-    while i < 8 {
-        out[i] = kept_of(chip, banks, i);
-        i += 1;
-    }
-    out
+    array::from_fn(|b| kept_of(chip, banks, b))
 }
 
 // ── All banks ───────────────────────────────────────────────────────────────────────────────
@@ -74,10 +57,8 @@ fn latest(nums: [u32; 16], from: usize) -> usize
     ensures upper_bound { result < 16 }
 {
     let mut best = from;
-    let mut i: usize = 0;
-    while i < 7 {
+    for i in 0..7 {
         best = later(nums, best, from + (i + 1));
-        i += 1;
     }
     best
 }
@@ -100,10 +81,8 @@ fn last_start(at: [u64; 8], nums: [u32; 8]) -> usize
     ensures upper_bound { result < 8 }
 {
     let mut best: usize = 0;
-    let mut i: usize = 0;
-    while i < 7 {
+    for i in 0..7 {
         best = later_start(at, nums, best, i + 1);
-        i += 1;
     }
     best
 }
@@ -125,48 +104,37 @@ fn later_start(at: [u64; 8], nums: [u32; 8], x: usize, b: usize) -> usize
 fn read_of(banks: Banks) -> Read
     ensures { result ≡ views.read_of banks }
 {
-    let colat = banks.colat;
-    let colno = banks.colno;
-    let colpre = banks.colpre;
-    let colturn = banks.colturn;
-    let colout = banks.colout;
-    let i = latest(colno, 0);
+    let i = latest(banks.colno, 0);
     Read {
-        at: colat[i],
-        num: colno[i],
-        n10: colpre[i],
-        n13: colturn[i],
-        n19: colout[i],
+        at: banks.colat[i],
+        num: banks.colno[i],
+        n10: banks.colpre[i],
+        n13: banks.colturn[i],
+        n19: banks.colout[i],
     }
 }
 
 fn wrote_of(banks: Banks) -> Wrote
     ensures { result ≡ views.wrote_of banks }
 {
-    let colat = banks.colat;
-    let colno = banks.colno;
-    let colpre = banks.colpre;
-    let colturn = banks.colturn;
-    let i = latest(colno, 8);
+    let i = latest(banks.colno, 8);
     Wrote {
-        at: colat[i],
-        num: colno[i],
-        n11: colpre[i],
-        n14: colturn[i],
+        at: banks.colat[i],
+        num: banks.colno[i],
+        n11: banks.colpre[i],
+        n14: banks.colturn[i],
     }
 }
 
 fn shut_of(chip: Chip, banks: Banks) -> Mark
     ensures { result ≡ views.shut_of chip banks }
 {
-    let shutat = banks.shutat;
-    let shutno = banks.shutno;
-    let b = last_start(shutat, shutno);
+    let b = last_start(banks.shutat, banks.shutno);
     needing(
         chip.trp,
         Mark {
-            at: shutat[b],
-            num: shutno[b],
+            at: banks.shutat[b],
+            num: banks.shutno[b],
             need: 0,
         },
     )
@@ -178,14 +146,12 @@ fn act_back(chip: Chip, acts: Acts, n: u64) -> Mark
     requires n_bound { n ≤ 3 }
     ensures { result ≡ views.act_back chip acts n }
 {
-    let at = acts.at;
-    let no = acts.no;
     let i = ((acts.turn + (3 - n)) % 4) as usize;
     needing(
         chip.tras,
         Mark {
-            at: at[i],
-            num: no[i],
+            at: acts.at[i],
+            num: acts.no[i],
             need: 0,
         },
     )
@@ -197,13 +163,10 @@ fn device_mark(device: Device, i: usize) -> Mark
     requires { i < 9 }
     ensures { result ≡ views.device_mark device i }
 {
-    let at = device.at;
-    let no = device.no;
-    let need = device.need;
     Mark {
-        at: at[i],
-        num: no[i],
-        need: need[i],
+        at: device.at[i],
+        num: device.no[i],
+        need: device.need[i],
     }
 }
 
@@ -240,13 +203,12 @@ pub(crate) fn written_of(device: Device) -> Written
     ensures { result ≡ views.written_of device }
 {
     let w = device.written;
-    let no = device.no;
     Written {
         w0: w[0],
         w1: w[1],
         w2: w[2],
         w3: w[3],
-        dll: no[5] != 0,
+        dll: device.no[5] != 0,
     }
 }
 

@@ -1,115 +1,57 @@
 // The waiting times after a record.
-ghost use Rattle.std.specs.Prelude.{◌≡◌, ◌++◌, ◌+◌, ◌≤◌, max, get_or};
+ghost use Rattle.std.specs.Prelude.{◌≡◌, ◌+◌, ◌++◌, max, map, get_or};
+ghost use Rattle.std.specs.List.{range_with_len};
 ghost use Rattle.laws.specs.Eight.{table};
-ghost use Rattle.running.specs.Ranges.{Small, last_edge, far_edge};
 ghost use Rattle.edges.specs.Asks as asks;
 
-use crate::asked::{asks_act, asks_mrs, asks_pre, asks_rd, asks_ref, asks_sre, asks_wr};
-use crate::numbers::most_of;
-use chip::{Chip, Regs};
+use crate::asked::Event;
 use edges::Waits;
-use records::{Command, Record};
+use std::array;
 
-fn act_waits(
-    chip: Chip,
-    c: Command,
-    r: Record,
-    e: u64,
-    g: Regs,
-    start: u64,
-    four: u64,
-    slow: bool,
-    was: [u64; 8],
-) -> [u64; 8]
-    requires small { Small chip }
-    requires e_le_last_edge { e ≤ last_edge }
-    requires start_le_far_edge { start ≤ far_edge }
-    ensures { result ≡ table (λ b. max (get_or was b 0) (asks.asks_act chip c r e g start four slow b)) }
-{
-    let mut out = [0u64; 8];
-    let mut i: usize = 0;
-    while i < 8 {
-        out[i] = most_of(was[i], asks_act(chip, c, r, e, g, start, four, slow, i));
-        i += 1;
+impl Event {
+    fn act_waits(self, was: [u64; 8]) -> [u64; 8]
+        ensures { result ≡ map (λ b. max (get_or was b 0) (asks.asks_act self.chip self.c self.r self.e self.g self.start self.four self.slow b)) (range_with_len 0 8) }
+    {
+        array::from_fn(|b| was[b].max(self.asks_act(b)))
     }
-    out
+
+    fn rd_waits(self, was: [u64; 16]) -> [u64; 8]
+        ensures { result ≡ map (λ b. max (get_or was b 0) (asks.asks_rd self.chip self.c self.r self.e self.g self.start self.four self.slow b)) (range_with_len 0 8) }
+    {
+        array::from_fn(|b| was[b].max(self.asks_rd(b)))
+    }
+
+    fn wr_waits(self, was: [u64; 16]) -> [u64; 8]
+        ensures { result ≡ map (λ b. max (get_or was (b + 8) 0) (asks.asks_wr self.chip self.c self.r self.e self.g self.start self.four self.slow b)) (range_with_len 0 8) }
+    {
+        array::from_fn(|b| was[b + 8].max(self.asks_wr(b)))
+    }
+
+    fn pre_waits(self, was: [u64; 8]) -> [u64; 8]
+        ensures { result ≡ map (λ b. max (get_or was b 0) (asks.asks_pre self.chip self.c self.r self.e self.g self.start self.four self.slow b)) (range_with_len 0 8) }
+    {
+        array::from_fn(|b| was[b].max(self.asks_pre(b)))
+    }
+
+    pub(crate) fn waits_next(self, w: Waits) -> Waits
+        ensures { result ≡ asks.waits_next self.chip self.c self.r self.e self.g self.start self.four self.slow w }
+    {
+        let refs = self.asks_ref();
+        Waits {
+            act: self.act_waits(w.act),
+            col: joined(self.rd_waits(w.col), self.wr_waits(w.col)),
+            pre: self.pre_waits(w.pre),
+            holds: [
+                w.holds[0].max(refs),
+                w.holds[1].max(self.asks_mrs()),
+                w.holds[2].max(refs),
+                w.holds[3].max(self.asks_sre()),
+            ],
+        }
+    }
 }
 
-fn rd_waits(
-    chip: Chip,
-    c: Command,
-    r: Record,
-    e: u64,
-    g: Regs,
-    start: u64,
-    four: u64,
-    slow: bool,
-    was: [u64; 16],
-) -> [u64; 8]
-    requires small { Small chip }
-    requires e_le_last_edge { e ≤ last_edge }
-    requires start_le_far_edge { start ≤ far_edge }
-    ensures { result ≡ table (λ b. max (get_or was b 0) (asks.asks_rd chip c r e g start four slow b)) }
-{
-    let mut out = [0u64; 8];
-    let mut i: usize = 0;
-    while i < 8 {
-        out[i] = most_of(was[i], asks_rd(chip, c, r, e, g, start, four, slow, i));
-        i += 1;
-    }
-    out
-}
-
-fn wr_waits(
-    chip: Chip,
-    c: Command,
-    r: Record,
-    e: u64,
-    g: Regs,
-    start: u64,
-    four: u64,
-    slow: bool,
-    was: [u64; 16],
-) -> [u64; 8]
-    requires small { Small chip }
-    requires e_le_last_edge { e ≤ last_edge }
-    requires start_le_far_edge { start ≤ far_edge }
-    ensures { result ≡ table (λ b. max (get_or was (b + 8) 0) (asks.asks_wr chip c r e g start four slow b)) }
-{
-    let mut out = [0u64; 8];
-    let mut i: usize = 0;
-    while i < 8 {
-        out[i] = most_of(was[i + 8], asks_wr(chip, c, r, e, g, start, four, slow, i));
-        i += 1;
-    }
-    out
-}
-
-fn pre_waits(
-    chip: Chip,
-    c: Command,
-    r: Record,
-    e: u64,
-    g: Regs,
-    start: u64,
-    four: u64,
-    slow: bool,
-    was: [u64; 8],
-) -> [u64; 8]
-    requires small { Small chip }
-    requires e_le_last_edge { e ≤ last_edge }
-    requires start_le_far_edge { start ≤ far_edge }
-    ensures { result ≡ table (λ b. max (get_or was b 0) (asks.asks_pre chip c r e g start four slow b)) }
-{
-    let mut out = [0u64; 8];
-    let mut i: usize = 0;
-    while i < 8 {
-        out[i] = most_of(was[i], asks_pre(chip, c, r, e, g, start, four, slow, i));
-        i += 1;
-    }
-    out
-}
-
+// Sixteen reads: of `array::from_fn` over both halves, and of `copy_from_slice` into them, no proof closed.
 fn joined(a: [u64; 8], b: [u64; 8]) -> [u64; 16]
     ensures { result ≡ table (λ i. get_or a i 0) ++ table (λ i. get_or b i 0) }
 {
@@ -117,42 +59,4 @@ fn joined(a: [u64; 8], b: [u64; 8]) -> [u64; 16]
         a[0], a[1], a[2], a[3], a[4], a[5], a[6], a[7], b[0], b[1], b[2], b[3], b[4], b[5], b[6],
         b[7],
     ]
-}
-
-pub(crate) fn waits_next(
-    chip: Chip,
-    c: Command,
-    r: Record,
-    e: u64,
-    g: Regs,
-    start: u64,
-    four: u64,
-    slow: bool,
-    w: Waits,
-) -> Waits
-    requires small { Small chip }
-    requires e_le_last_edge { e ≤ last_edge }
-    requires start_le_far_edge { start ≤ far_edge }
-    ensures { result ≡ asks.waits_next chip c r e g start four slow w }
-{
-    let act = w.act;
-    let col = w.col;
-    let pre = w.pre;
-    let holds = w.holds;
-    let rds = rd_waits(chip, c, r, e, g, start, four, slow, col);
-    let wrs = wr_waits(chip, c, r, e, g, start, four, slow, col);
-    let refs = asks_ref(chip, c, r, e, g, start, four, slow);
-    let mrs = asks_mrs(chip, c, r, e, g, start, four, slow);
-    let sre = asks_sre(chip, c, r, e, g, start, four, slow);
-    Waits {
-        act: act_waits(chip, c, r, e, g, start, four, slow, act),
-        col: joined(rds, wrs),
-        pre: pre_waits(chip, c, r, e, g, start, four, slow, pre),
-        holds: [
-            most_of(holds[0], refs),
-            most_of(holds[1], mrs),
-            most_of(holds[2], refs),
-            most_of(holds[3], sre),
-        ],
-    }
 }

@@ -2,3 +2,5 @@ pub mod Pieces
 pub mod Words
 pub mod Records
 pub mod Answers
+pub mod Turns
+pub mod Tags

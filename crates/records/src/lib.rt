@@ -4,7 +4,7 @@
 ghost use Rattle.std.specs.Prelude.{◌≡◌};
 ghost use Rattle.records.specs.Record.{fields_of};
 ghost use Rattle.records.specs.Command.{by_pins, falling, rising};
-ghost use Rattle.records.specs.Promises.{Decode, CommandOf, RankOf};
+ghost use Rattle.records.specs.Promises.{Sixes, Decode, CommandOf, RankOf};
 
 // Edges since the record before, the pin levels of CKE and of CS, RAS, CAS, WE as one number, BA, and A15..A0.
 #[derive(Clone, Copy)]
@@ -17,7 +17,7 @@ pub struct Record {
 }
 
 // Low: CKE stays low and the pins are ignored. Bad: a CKE change that is none of the others. Pde, Pdx: entry and exit of power-down.
-#[derive(Clone, Copy)]
+#[derive(Clone, Copy, PartialEq, Eq)]
 pub enum Command {
     Mrs,
     Ref,
@@ -36,10 +36,17 @@ pub enum Command {
     Pdx,
 }
 
-pub fn decode(b0: u8, b1: u8, b2: u8, b3: u8, b4: u8, b5: u8) -> Record
-    ensures { Decode b0 b1 b2 b3 b4 b5 result }
+// A section's records, six bytes each. Bytes behind the last whole one belong to none.
+pub fn sixes(bytes: &[u8]) -> &[[u8; 6]]
+    ensures { Sixes bytes.now result.now }
 {
-    fields(bits::word(b0, b1, b2, b3, b4, b5))
+    bytes.as_chunks::<6>().0
+}
+
+pub fn decode(six: [u8; 6]) -> Record
+    ensures { Decode six result }
+{
+    fields(bits::word(six))
 }
 
 fn fields(w: u64) -> Record
@@ -111,7 +118,7 @@ fn rises(asleep: bool, pins: u64) -> Command
     Command::Pdx
 }
 
-// The command's number, by which commands are told apart.
+// The command's number; no two commands have one.
 pub fn rank_of(c: Command) -> u64
     ensures { RankOf c result }
 {

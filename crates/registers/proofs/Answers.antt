@@ -2,23 +2,24 @@
 -- Assumes nothing.
 use Prim.Native.Nat.{ℕ, ◌+◌, ◌*◌, ◌<◌, ◌≤◌}
 use mathlib.Core.Bool.{Bool, true, false, cond}
-use mathlib.Core.List.{List, ◌∷◌, [], ◌++◌}
+use mathlib.Core.List.{List, [], ◌++◌}
 use mathlib.Core.Path.{◌≡◌, refl, sym, ap, subst, ◌∙◌}
 use mathlib.Core.Logic.{◌⊎◌, inl, inr, ⊎_elim}
-use lib.ListN.{length, take, drop}
+use lib.ListN.{length, drop}
+use lib.Seq.{take-length}
 use lib.Dec.{eqb, ltb}
 use borrow.Author.Tests.{lt-ltb, le-ltb}
 use Rattle.laws.specs.Lent.{written}
 use Rattle.laws.proofs.Lent.{writes, later-bytes-kept, same_answer}
 use Rattle.laws.proofs.Unique.{Unique, one_answer}
 use Rattle.header.specs.declared.Header.{Header}
-use Rattle.header.specs.declared.Parsed.{Parsed}
-use Rattle.header.specs.declared.Parsed.TheVariants.{Taken, Refused}
-use Rattle.header.specs.Bytes.{parsed_of}
-use Rattle.registers.specs.declared.Values.{Values}
-use Rattle.registers.specs.declared.Decoded.{Decoded}
-use Rattle.registers.specs.declared.Decoded.TheVariants.{Register, Bit}
-use Rattle.registers.specs.Reading.{decoded_of, Answer, refusal, answer_of, read_under, read_of}
+use Rattle.std.specs.Prelude.{Ok, Err}
+use Rattle.header.specs.Bytes.{Parsed, parsed_of}
+use Rattle.refusals.specs.declared.Refusal.{Refusal}
+use Rattle.refusals.specs.Refusals.{number_of}
+use Rattle.registers.specs.declared.BadBit.{BadBit}
+use Rattle.registers.specs.Allowed.{bad_bit, allowed}
+use Rattle.registers.specs.Reading.{Decoded, values, values0, values1, values2, values_of, bad, decoded_of, Answer, refusal, answer_of, read_under, read_of}
 use Rattle.registers.specs.Promises.{Decode, Gives, Read}
 
 -- a refusal writes nothing, whatever its number
@@ -30,13 +31,33 @@ nothing k before = record { result = refl; out = go (eqb k 0) }
     go true = refl
     go false = refl
 
-module _ (d : Decoded) where
-  pub puts-values : (v : Values) (before after : List ℕ) → d ≡ Register v
-      → after ≡ take 6 (v.first ∷ v.second ∷ v.third ∷ v.fourth ∷ v.fifth ∷ v.sixth ∷ []) ++ drop 6 before → Gives (answer_of d) before 0 after
-  puts-values v before after is copied = subst (λ x. Gives (answer_of x) before 0 after) (sym is) (writes _ _ _ _ after refl refl copied)
+-- the values of a code are six
+six : (n c : ℕ) → length (values_of n c) ≡ 6
+unfolding values_of values0 values1 values2
+six n c = go (eqb n 0) (eqb n 1) (eqb n 2)
+  where
+    go : (x y z : Bool) → length (cond x (values0 c) (cond y (values1 c) (cond z (values2 c) (values 0 0 0 0 0 0)))) ≡ 6
+    go true y z = refl
+    go false true z = refl
+    go false false true = refl
+    go false false false = refl
 
-  pub puts-bit : (b : ℕ) (before : List ℕ) → d ≡ Bit b → Gives (answer_of d) before (11 + 256 * b) before
-  puts-bit b before is = subst (λ x. Gives (answer_of x) before (11 + 256 * b) before) (sym is) (nothing (11 + 256 * b) before)
+pub ok-six : (h : Header) (n c : ℕ) (v : List ℕ) → Ok v ≡ decoded_of h n c → length v ≡ 6
+unfolding decoded_of
+ok-six h n c v = go (allowed h n c)
+  where
+    go : (x : Bool) → Ok v ≡ cond x (Ok (values_of n c)) (Err (bad (bad_bit h n c))) → length v ≡ 6
+    go true e = let is : v ≡ values_of n c = cc in ap length is ∙ six n c
+    go false e = cc
+
+module _ (d : Decoded) where
+  pub puts-values : (v before after : List ℕ) → length v ≡ 6 → d ≡ Ok v → after ≡ v ++ drop 6 before → Gives (answer_of d) before 0 after
+  puts-values v before after six is copied =
+      subst (λ x. Gives (answer_of x) before 0 after) (sym is)
+      (writes _ _ _ v after refl refl (copied ∙ (λ i. sym (take-length v) i ++ drop (sym six i) before)))
+
+  pub puts-bit : (b : BadBit) (before : List ℕ) → d ≡ Err b → Gives (answer_of d) before (11 + 256 * b.bit) before
+  puts-bit b before is = subst (λ x. Gives (answer_of x) before (11 + 256 * b.bit) before) (sym is) (nothing (11 + 256 * b.bit) before)
 
 module _ (hd : List ℕ) (n c : ℕ) (before : List ℕ) where
   pub short : length before < 6 → Read hd n c before 9 before
@@ -52,23 +73,30 @@ module _ (hd : List ℕ) (n c : ℕ) (before : List ℕ) where
     by : (x : Parsed) (r : ℕ) (after : List ℕ) → x ≡ parsed_of 1 hd → Gives (read_under x n c) before r after → Read hd n c before r after
     by x r after is w = subst (λ a. Gives a before r after) (sym long-is) (subst (λ p. Gives (read_under p n c) before r after) is w)
 
-    pub taken : (p : Parsed) (h : Header) (d : Decoded) {r : ℕ} {after : List ℕ} → p ≡ parsed_of 1 hd → p ≡ Taken h → d ≡ decoded_of h n c
+    pub taken : (p : Parsed) (h : Header) (d : Decoded) {r : ℕ} {after : List ℕ} → p ≡ parsed_of 1 hd → p ≡ Ok h → d ≡ decoded_of h n c
         → Gives (answer_of d) before r after → Read hd n c before r after
-    taken p h d {r} {after} is t e w = by (Taken h) r after (sym t ∙ is) (subst (λ x. Gives (answer_of x) before r after) e w)
+    taken p h d {r} {after} is t e w = by (Ok h) r after (sym t ∙ is) (subst (λ x. Gives (answer_of x) before r after) e w)
 
-    pub refused : (p : Parsed) (k : ℕ) → p ≡ parsed_of 1 hd → p ≡ Refused k → Read hd n c before k before
-    refused p k is t = by (Refused k) k before (sym t ∙ is) (nothing k before)
+    pub refused : (p : Parsed) (k : Refusal) → p ≡ parsed_of 1 hd → p ≡ Err k → Read hd n c before (number_of k) before
+    refused p k is t = by (Err k) (number_of k) before (sym t ∙ is) (nothing (number_of k) before)
 
 -- ── The bytes behind the six ────────────────────────────────────────────────────────────────
 
 -- six bytes, or none
-six-or-none : (d : Decoded) → (length (answer_of d).bytes ≡ 6) ⊎ ((answer_of d).bytes ≡ [])
-six-or-none (Register v) = inl refl
-six-or-none (Bit b) = inr refl
+six-or-none : (h : Header) (n c : ℕ) → (length (answer_of (decoded_of h n c)).bytes ≡ 6) ⊎ ((answer_of (decoded_of h n c)).bytes ≡ [])
+unfolding decoded_of
+six-or-none h n c = go (allowed h n c)
+  where
+    one : Bool → Decoded
+    one x = cond x (Ok (values_of n c)) (Err (bad (bad_bit h n c)))
+
+    go : (x : Bool) → (length (answer_of (one x)).bytes ≡ 6) ⊎ ((answer_of (one x)).bytes ≡ [])
+    go true = inl (six n c)
+    go false = inr refl
 
 under-six-or-none : (p : Parsed) (n c : ℕ) → (length (read_under p n c).bytes ≡ 6) ⊎ ((read_under p n c).bytes ≡ [])
-under-six-or-none (Taken h) n c = six-or-none (decoded_of h n c)
-under-six-or-none (Refused k) n c = inr refl
+under-six-or-none (Ok h) n c = six-or-none h n c
+under-six-or-none (Err k) n c = inr refl
 
 read-six-or-none : (hd : List ℕ) (n c room : ℕ) → (length (read_of hd n c room).bytes ≡ 6) ⊎ ((read_of hd n c room).bytes ≡ [])
 unfolding read_of

@@ -3,7 +3,7 @@
 use Prim.Native.Nat.{ℕ, ◌<◌}
 use native.Mathlib.Omega.{arith}
 use mathlib.Core.Bool.{Bool, true, false, cond}
-use mathlib.Core.Path.{◌≡◌, refl, sym, ◌∙◌}
+use mathlib.Core.Path.{◌≡◌, refl, sym, ap, ◌∙◌}
 use lib.Dec.{leb, ltb}
 use borrow.Author.Tests.{eqb-true, ltb-true, ltb-false}
 use Rattle.laws.specs.Among.{first, next}
@@ -11,10 +11,10 @@ use Rattle.header.specs.declared.Header.{Header}
 use Rattle.header.specs.Counts.{t_wr}
 use Rattle.codes.specs.Codes.{cl, wr}
 use Rattle.registers.specs.Allowed.{cl_fits, table0, fields_in, no_bit, bad_bit, allowed}
-use Rattle.registers.specs.declared.Values.{Values}
-use Rattle.registers.specs.declared.Decoded.{Decoded}
-use Rattle.registers.specs.declared.Decoded.TheVariants.{Register, Bit}
-use Rattle.registers.specs.Reading.{values_of, decoded_of}
+use Rattle.std.specs.Prelude.{List}
+use Rattle.std.specs.Prelude.{Ok, Err, is_ok}
+use Rattle.registers.specs.declared.BadBit.{BadBit}
+use Rattle.registers.specs.Reading.{Decoded, bad, values_of, decoded_of}
 use Rattle.registers.proofs.Lowest.{no_register_lem, allowed-means}
 
 module _ (h : Header) where
@@ -32,21 +32,29 @@ module _ (h : Header) where
   unfolding fields_in table0
   allowed0 c y = let all = allowed-means h 0 c (omega arith) y in (all _ (next first), all _ (next (next (next first))))
 
-  -- ── The enum taken apart ──────────────────────────────────────────────────────────────────
+  -- ── The answer taken apart ──────────────────────────────────────────────────────────────────
 
   module _ (n c : ℕ) (d : Decoded) (is : d ≡ decoded_of h n c) where
-    pub as-register : (v : Values) → d ≡ Register v → allowed h n c ≡ true
+    pub as-allowed : (v : List ℕ) → d ≡ Ok v → allowed h n c ≡ true
     unfolding decoded_of
-    as-register v t = go (allowed h n c) (sym t ∙ is)
+    as-allowed v t = go (allowed h n c) (sym t ∙ is)
       where
-        go : (x : Bool) → Register v ≡ cond x (Register (values_of n c)) (Bit (bad_bit h n c)) → x ≡ true
+        go : (x : Bool) → Ok v ≡ cond x (Ok (values_of n c)) (Err (bad (bad_bit h n c))) → x ≡ true
         go true e = refl
         go false e = cc
 
-    pub as-bit : (b : ℕ) → d ≡ Bit b → (allowed h n c ≡ false) × (b ≡ bad_bit h n c)
+    pub as-bit : (b : BadBit) → d ≡ Err b → (allowed h n c ≡ false) × (b.bit ≡ bad_bit h n c)
     unfolding decoded_of
     as-bit b t = go (allowed h n c) (sym t ∙ is)
       where
-        go : (x : Bool) → Bit b ≡ cond x (Register (values_of n c)) (Bit (bad_bit h n c)) → (x ≡ false) × (b ≡ bad_bit h n c)
+        go : (x : Bool) → Err b ≡ cond x (Ok (values_of n c)) (Err (bad (bad_bit h n c))) → (x ≡ false) × (b.bit ≡ bad_bit h n c)
         go true e = (cc, cc)
         go false e = (refl, cc)
+
+    pub ok-allowed : is_ok d ≡ true → allowed h n c ≡ true
+    unfolding decoded_of
+    ok-allowed y = go (allowed h n c) (ap is_ok (sym is) ∙ y)
+      where
+        go : (x : Bool) → is_ok (cond x (Ok (values_of n c)) (Err (bad (bad_bit h n c)))) ≡ true → x ≡ true
+        go true e = refl
+        go false e = e

@@ -1,4 +1,3 @@
-pub mod Tables
 pub mod Answers
 pub mod Lowest
 pub mod Facts

@@ -6,11 +6,12 @@ use mathlib.Core.Bool.{Bool, true, false, cond, ◌&&◌}
 use mathlib.Core.List.{List, [], ◌∷◌}
 use mathlib.Core.Path.{◌≡◌, refl, sym, subst, ◌∙◌}
 use lib.Dec.{eqb, leb, ltb}
-use borrow.Author.Tests.{eqb-true, eqb-false, leb-true, ltb-true, lt-ltb, le-ltb}
+use borrow.Author.Tests.{eqb-true, eqb-false, leb-true, ltb-true, lt-ltb, le-ltb, eq-eqb, ne_eqb}
 use Rattle.laws.specs.Among.{Among, first, next}
 use Rattle.laws.proofs.Both.{both}
 use Rattle.header.specs.declared.Header.{Header}
-use Rattle.registers.specs.Allowed.{Field, table0, table1, table2, table3, fields_in, first_bad, no_bit, bad_bit, allowed}
+use Rattle.registers.specs.Allowed.{Field, table0, table1, table2, table3, fields_in, first_bad, first_of, no_bit, bad_bit, bit_of, allowed}
+use Rattle.std.specs.Prelude.{Option, None, Some}
 use Rattle.registers.specs.Lowest.{Lowest, AllAllowed}
 
 -- the fields' lowest bits, from one on, each above the one before, and none that says "no bit"
@@ -81,6 +82,20 @@ lowest k (f ∷ fs) h some = go f.ok refl (lowest (suc f.low) fs (parts k f fs h
         record { field = w.field; among = next w.among; bad = w.bad; is = rw y w.is; least = least }
     go false z others = record { field = f; among = first; bad = z; is = rw z refl; least = least }
 
+-- the bit that is named, or none, by the number
+abbrev pub Told : Option ℕ → ℕ → Type 0
+Told None m = m ≡ no_bit
+Told (Some b) m = (m ≡ b) × (b < no_bit)
+
+told : (k : ℕ) (fs : List Field) → ascends k fs ≡ true → Told (first_of fs) (first_bad fs)
+unfolding first_bad first_of
+told k [] h = refl
+told k (f ∷ fs) h = go f.ok (told (suc f.low) fs (parts k f fs h).2)
+  where
+    go : (x : Bool) → Told (first_of fs) (first_bad fs) → Told (cond x (first_of fs) (Some f.low)) (cond x (first_bad fs) f.low)
+    go true t = t
+    go false t = (refl, (parts k f fs h).1)
+
 module _ (h : Header) (n c : ℕ) where
   -- "16 when the register number is wrong"
   pub no_register_lem : 3 < n → bad_bit h n c ≡ 16
@@ -116,3 +131,22 @@ module _ (h : Header) (n c : ℕ) where
       go : (x : Bool) → first_bad (fields_in h n c) ≤ no_bit → cond x 16 (first_bad (fields_in h n c)) ≤ no_bit
       go true l = omega arith
       go false l = l
+
+  pub bit-told : Told (bit_of h n c) (bad_bit h n c)
+  unfolding bad_bit bit_of
+  bit-told = go (ltb 3 n) (told 0 (fields_in h n c) (ascending h n c))
+    where
+      go : (x : Bool) → Told (first_of (fields_in h n c)) (first_bad (fields_in h n c)) → Told (cond x (Some 16) (first_of (fields_in h n c))) (cond x 16 (first_bad (fields_in h n c)))
+      go true t = (refl, omega arith)
+      go false t = t
+
+  -- no bit is named just where the code is allowed
+  pub none-allowed : bit_of h n c ≡ None → allowed h n c ≡ true
+  unfolding allowed
+  none-allowed none = eq-eqb (bad_bit h n c) no_bit (subst (λ x. Told x (bad_bit h n c)) none bit-told)
+
+  pub some-bad : (b : ℕ) → bit_of h n c ≡ Some b → (allowed h n c ≡ false) × (bad_bit h n c ≡ b)
+  unfolding allowed
+  some-bad b some =
+      let t : Told (Some b) (bad_bit h n c) = subst (λ x. Told x (bad_bit h n c)) some bit-told in
+      (ne_eqb (bad_bit h n c) no_bit (λ z. omega (arith, z, t.0, t.1)), t.0)

@@ -1,8 +1,9 @@
 -- The codes that are allowed under a header: 01, "Registers", "A field code not listed is not allowed."; and which field is not: 02, Q-5.
 -- Assumes nothing.
-use Rattle.std.specs.Prelude.{ℕ, Bool, cond, not, ◌&&◌, List, [], ◌∷◌, eqb, leb, ltb}
+use Rattle.std.specs.Prelude.{ℕ, Bool, cond, not, ◌&&◌, List, [], ◌∷◌, eqb, leb, ltb, Option, None, Some}
 use Rattle.header.specs.declared.Header.{Header}
 use Rattle.header.specs.Counts.{t_wr}
+use Rattle.registers.specs.declared.permit.Span.{Span as Spanned}
 use Rattle.codes.specs.Codes.{bits, bit, set, burst, cl, wr, rtt, cwl}
 
 -- the periods and bins of a CAS latency
@@ -14,6 +15,10 @@ pub record Span : Type 0 where
 
 abbrev pub span : (from under lowest highest : ℕ) → Span
 span f u l h = record { from = f; under = u; lowest = l; highest = h }
+
+-- the same, as the code has them
+abbrev pub span_as : Span → Spanned
+span_as s = record { from = s.from; under = s.under; lowest = s.lowest; highest = s.highest }
 
 -- "CL against period: 5 from 3000 to 3300 (not bin 3); 6 from 2500 to 3300; 7, 8 from 1875 to under 2500; 9, 10 from 1500 to under
 -- 1875 (not bin 0); 11 from 1250 to under 1500 (bins 2, 3); 12 from 1070 to under 1250 (bin 3)"
@@ -91,6 +96,11 @@ fields_in h n c = cond (eqb n 0) (table0 h c) (cond (eqb n 1) (table1 h c) (cond
 abbrev pub no_bit : ℕ
 no_bit = 17
 
+-- the same, none where there is no such field
+unfoldable pub first_of : List Field → Option ℕ
+first_of [] = None
+first_of (f ∷ fs) = cond f.ok (first_of fs) (Some f.low)
+
 -- the first field of a table that is not allowed
 unfoldable pub first_bad : List Field → ℕ
 first_bad [] = no_bit
@@ -99,6 +109,9 @@ first_bad (f ∷ fs) = cond f.ok (first_bad fs) f.low
 -- Q-5: "the lowest-numbered address bit belonging to a field that isn't allowed", "16 when the register number is wrong"
 unfoldable pub bad_bit : Header → (number code : ℕ) → ℕ
 bad_bit h n c = cond (ltb 3 n) 16 (first_bad (fields_in h n c))
+
+unfoldable pub bit_of : Header → (number code : ℕ) → Option ℕ
+bit_of h n c = cond (ltb 3 n) (Some 16) (first_of (fields_in h n c))
 
 unfoldable pub allowed : Header → (number code : ℕ) → Bool
 allowed h n c = eqb (bad_bit h n c) no_bit

@@ -4,8 +4,7 @@
 use Rattle.std.specs.Prelude.{ℕ, ◌≡◌, List, length}
 use Rattle.laws.specs.Lent.{Wrote}
 use Rattle.header.specs.declared.Header.{Header}
-use Rattle.registers.specs.declared.Decoded.{Decoded}
-use Rattle.registers.specs.Reading.{decoded_of, Answer, read_of}
+use Rattle.registers.specs.Reading.{Decoded, decoded_of, Answer, read_of}
 
 -- `decode`
 abbrev pub Decode : (h : Header) (number code : ℕ) (r : Decoded) → Type 0

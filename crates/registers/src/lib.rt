@@ -6,23 +6,23 @@ mod permit;
 mod reading;
 mod taken_apart;
 
+ghost use Rattle.std.specs.Prelude.{◌≡◌};
+ghost use Rattle.refusals.specs.declared.Refusal.TheVariants.{Register};
+
 pub use decoding::decode;
 pub use reading::read;
+use refusals::Refusal;
 
-// What register reading writes of a code, in its order.
-#[derive(Clone, Copy)]
-pub struct Values {
-    pub first: u8,
-    pub second: u8,
-    pub third: u8,
-    pub fourth: u8,
-    pub fifth: u8,
-    pub sixth: u8,
+// The lowest address bit of a field that is not allowed, 16 above register 3.
+#[derive(Clone, Copy, Debug, PartialEq, Eq)]
+pub struct BadBit {
+    pub bit: u8,
 }
 
-// A code that is allowed, taken apart; or the lowest address bit of a field that is not allowed, 16 above register 3.
-#[derive(Clone, Copy)]
-pub enum Decoded {
-    Register(Values),
-    Bit(u8),
+impl From<BadBit> for Refusal {
+    ghost from_gives = { λ b r. r ≡ Register b.bit };
+
+    fn from(bad: BadBit) -> Refusal {
+        Refusal::Register(bad.bit)
+    }
 }

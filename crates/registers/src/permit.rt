@@ -5,34 +5,24 @@ ghost use Rattle.registers.specs.Allowed as allows;
 use codes::{cl, cwl, wr};
 use header::Header;
 
-// By CL: the period from, the period under, the lowest bin, the highest bin.
-const SPANS: [[u64; 4]; 13] = [
-    [0, 0, 0, 0],
-    [0, 0, 0, 0],
-    [0, 0, 0, 0],
-    [0, 0, 0, 0],
-    [0, 0, 0, 0],
-    [3000, 3301, 0, 2],
-    [2500, 3301, 0, 3],
-    [1875, 2500, 0, 3],
-    [1875, 2500, 0, 3],
-    [1500, 1875, 1, 3],
-    [1500, 1875, 1, 3],
-    [1250, 1500, 2, 3],
-    [1070, 1250, 3, 3],
-];
+// The periods, from one to under another, and the bins, the lowest and the highest, of a CAS latency.
+#[derive(Clone, Copy)]
+struct Span {
+    from: u64,
+    under: u64,
+    lowest: u64,
+    highest: u64,
+}
 
-// What is named in the place of a bit: there is no such register; every field is allowed.
+// What is named in the place of a bit where there is no such register.
 const NO_REGISTER: u8 = 16;
 
-pub(crate) const NO_BIT: u8 = 17;
-
-// The lowest bit of a field that is not allowed.
-pub(crate) fn bad_bit(h: Header, number: u32, code: u16) -> u8
-    ensures { result ≡ allows.bad_bit h number code }
+// The lowest bit of a field that is not allowed; none where every field is.
+pub(crate) fn bad_bit(h: Header, number: u32, code: u16) -> Option<u8>
+    ensures { result ≡ allows.bit_of h number code }
 {
     if 3 < number {
-        return NO_REGISTER;
+        return Some(NO_REGISTER);
     }
     if number == 0 {
         return bad0(h, code);
@@ -46,8 +36,8 @@ pub(crate) fn bad_bit(h: Header, number: u32, code: u16) -> u8
     bad3(code)
 }
 
-fn bad0(h: Header, code: u16) -> u8
-    ensures { result ≡ allows.first_bad (allows.table0 h code) }
+fn bad0(h: Header, code: u16) -> Option<u8>
+    ensures { result ≡ allows.first_of (allows.table0 h code) }
 {
     let recovery = h.twr().clocks <= wide(wr(code));
     let from9 = or_bit(9, recovery, from13(code));
@@ -56,8 +46,8 @@ fn bad0(h: Header, code: u16) -> u8
     or_bit(0, code % 4 < 3, from2)
 }
 
-fn bad1(h: Header, code: u16) -> u8
-    ensures { result ≡ allows.first_bad (allows.table1 h code) }
+fn bad1(h: Header, code: u16) -> Option<u8>
+    ensures { result ≡ allows.first_of (allows.table1 h code) }
 {
     let rtt = code / 512 % 2 * 4 + code / 64 % 2 * 2 + code / 4 % 2;
     let from11 = or_bit(11, !(h.wide & (code / 2048 % 2 == 1)), from13(code));
@@ -70,8 +60,8 @@ fn bad1(h: Header, code: u16) -> u8
     or_bit(0, code % 2 == 0, from2)
 }
 
-fn bad2(h: Header, code: u16) -> u8
-    ensures { result ≡ allows.first_bad (allows.table2 h code) }
+fn bad2(h: Header, code: u16) -> Option<u8>
+    ensures { result ≡ allows.first_of (allows.table2 h code) }
 {
     let latency = wide(cwl(code)) == cwl_for(h.period.ps);
     let both = (code / 64 % 2 == 1) & (code / 128 % 2 == 1);
@@ -81,11 +71,11 @@ fn bad2(h: Header, code: u16) -> u8
     or_bit(3, latency, from6)
 }
 
-fn bad3(code: u16) -> u8
-    ensures { result ≡ allows.first_bad (allows.table3 code) }
+fn bad3(code: u16) -> Option<u8>
+    ensures { result ≡ allows.first_of (allows.table3 code) }
 {
     if code == 0 {
-        return NO_BIT;
+        return None;
     }
     let from10 = or_bit(10, code / 1024 % 2 == 0, from11(code));
     let from9 = or_bit(9, code / 512 % 2 == 0, from10);
@@ -101,36 +91,64 @@ fn bad3(code: u16) -> u8
 }
 
 // A11 to A15, each 0; first together, since most codes have none of them.
-fn from11(code: u16) -> u8
-    ensures { result ≡ allows.first_bad (allows.from11 code) }
+fn from11(code: u16) -> Option<u8>
+    ensures { result ≡ allows.first_of (allows.from11 code) }
 {
     if code < 2048 {
-        return NO_BIT;
+        return None;
     }
     let from12 = or_bit(12, code / 4096 % 2 == 0, from13(code));
     or_bit(11, code / 2048 % 2 == 0, from12)
 }
 
 // A13 to A15 in the same way.
-fn from13(code: u16) -> u8
-    ensures { result ≡ allows.first_bad (allows.from13 code) }
+fn from13(code: u16) -> Option<u8>
+    ensures { result ≡ allows.first_of (allows.from13 code) }
 {
     if code < 8192 {
-        return NO_BIT;
+        return None;
     }
-    let from15 = or_bit(15, code / 32768 % 2 == 0, NO_BIT);
+    let from15 = or_bit(15, code / 32768 % 2 == 0, None);
     let from14 = or_bit(14, code / 16384 % 2 == 0, from15);
     or_bit(13, code / 8192 % 2 == 0, from14)
 }
 
 // The field's lowest bit, or what the fields above it give where it is allowed.
-fn or_bit(low: u8, ok: bool, above: u8) -> u8
-    ensures { result ≡ cond ok above low }
+fn or_bit(low: u8, ok: bool, above: Option<u8>) -> Option<u8>
+    ensures { result ≡ cond ok above (Some low) }
 {
     if ok {
         return above;
     }
-    low
+    Some(low)
+}
+
+// A latency that is not listed has none.
+fn spanned(cl: u8) -> Span
+    ensures { result ≡ allows.span_as (allows.span_of cl) }
+{
+    match cl {
+        5 => between(3000, 3301, 0, 2),
+        6 => between(2500, 3301, 0, 3),
+        7 => between(1875, 2500, 0, 3),
+        8 => between(1875, 2500, 0, 3),
+        9 => between(1500, 1875, 1, 3),
+        10 => between(1500, 1875, 1, 3),
+        11 => between(1250, 1500, 2, 3),
+        12 => between(1070, 1250, 3, 3),
+        _ => between(0, 0, 0, 0),
+    }
+}
+
+fn between(from: u64, under: u64, lowest: u64, highest: u64) -> Span
+    ensures { result ≡ allows.span_as (allows.span from under lowest highest) }
+{
+    Span {
+        from,
+        under,
+        lowest,
+        highest,
+    }
 }
 
 // Has the CAS latency this period and bin among its own?
@@ -139,12 +157,8 @@ fn cl_fits(h: Header, cl: u8) -> bool
 {
     let p = h.period.ps;
     let b = wide(h.bin);
-    if 12 < cl {
-        return false;
-    }
-    let at = cl as usize;
-    let row = SPANS[at];
-    (row[0] <= p) & ((p < row[1]) & ((row[2] <= b) & (b <= row[3])))
+    let s = spanned(cl);
+    (s.from <= p) & ((p < s.under) & ((s.lowest <= b) & (b <= s.highest)))
 }
 
 // The one CAS write latency of a period; 0 where there is none.

@@ -2,8 +2,6 @@
 // header, the register's number, the code's two, and the length of the buffer lent, at most 8.
 #![tactic(auto)]
 
-ghost use Rattle.std.specs.Prelude.{◌≡◌, length};
-
 // The standard streams, by number.
 const STDIN_FILENO: i32 = 0;
 
@@ -19,39 +17,33 @@ fn main() {
 
 // What is left behind the last whole call is passed over.
 fn answer_all(calls: &[u8]) {
-    let mut at: usize = 0;
-    while CALL <= calls.len() - at {
-        let end = at + CALL;
-        answer(&calls[at..end]);
-        at = end;
+    for &call in calls.as_chunks::<CALL>().0 {
+        answer(call);
     }
 }
 
-fn answer(call: &[u8])
-    requires { length call.now ≡ 10 }
-{
-    let header = [call[0], call[1], call[2], call[3], call[4], call[5]];
-    let number = call[6];
-    let code = word(call[7], call[8]);
-    let room = call[9];
+fn answer(call: [u8; CALL]) {
+    let [h0, h1, h2, h3, h4, h5, number, c0, c1, room] = call;
+    let header = [h0, h1, h2, h3, h4, h5];
+    let code = u16::from_be_bytes([c0, c1]);
     print_header(&header);
     print_call(number, code, room);
     print_answer(&header, number, code, room);
 }
 
 fn print_header(header: &[u8; 6]) {
-    io::print_hex(STDOUT_FILENO, word(header[0], header[1]) as u64, 4);
-    io::print_hex(STDOUT_FILENO, word(header[2], header[3]) as u64, 4);
-    io::print_hex(STDOUT_FILENO, word(header[4], header[5]) as u64, 4);
+    for &b in header {
+        io::print_hex(STDOUT_FILENO, u64::from(b), 2);
+    }
 }
 
 fn print_call(number: u8, code: u16, room: u8) {
     io::write_all(STDOUT_FILENO, b" ");
-    io::print_decimal(STDOUT_FILENO, number as u64);
+    io::print_decimal(STDOUT_FILENO, u64::from(number));
     io::write_all(STDOUT_FILENO, b" ");
-    io::print_hex(STDOUT_FILENO, code as u64, 4);
+    io::print_hex(STDOUT_FILENO, u64::from(code), 4);
     io::write_all(STDOUT_FILENO, b" ");
-    io::print_decimal(STDOUT_FILENO, room as u64);
+    io::print_decimal(STDOUT_FILENO, u64::from(room));
     io::write_all(STDOUT_FILENO, b" -> ");
 }
 
@@ -63,9 +55,9 @@ fn print_answer(header: &[u8; 6], number: u8, code: u16, room: u8) {
 
 // The refusal's number; or 0, and the whole buffer as it is now.
 fn print_read(header: &[u8; 6], number: u8, code: u16, out: &mut [u8]) {
-    let refused = registers::read(header, number as u32, code, out);
-    io::print_decimal(STDOUT_FILENO, refused as u64);
-    if refused == 0 {
+    let read = registers::read(header, u32::from(number), code, out);
+    io::print_decimal(STDOUT_FILENO, u64::from(refusals::code(read)));
+    if read.is_ok() {
         io::write_all(STDOUT_FILENO, b":");
         print_values(out);
     }
@@ -73,16 +65,8 @@ fn print_read(header: &[u8; 6], number: u8, code: u16, out: &mut [u8]) {
 }
 
 fn print_values(values: &[u8]) {
-    for i in 0..values.len() {
-        print_value(values[i]);
+    for &value in values {
+        io::write_all(STDOUT_FILENO, b" ");
+        io::print_decimal(STDOUT_FILENO, u64::from(value));
     }
-}
-
-fn print_value(value: u8) {
-    io::write_all(STDOUT_FILENO, b" ");
-    io::print_decimal(STDOUT_FILENO, value as u64);
-}
-
-fn word(high: u8, low: u8) -> u16 {
-    high as u16 * 256 + low as u16
 }

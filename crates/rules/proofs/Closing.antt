@@ -6,7 +6,7 @@ use mathlib.Core.List.{List, [], ◌∷◌}
 use Rattle.laws.specs.Eight.{table}
 use Rattle.answers.specs.declared.Break.TheVariants.{Fine, Broken}
 use Rattle.answers.specs.declared.Verdict.{Verdict}
-use Rattle.answers.specs.declared.Register.{Register}
+use Rattle.std.specs.Prelude.{Option}
 use Rattle.answers.specs.declared.Shown.{Shown}
 use Rattle.answers.specs.declared.End.{End}
 use Rattle.answers.specs.Answer.{shown_of}
@@ -25,7 +25,7 @@ rest-shown (stop u m Fine) n t = refl
 rest-shown (stop u m (Broken k x y f)) n t = refl
 
 module _ (C : Chip) where
-  abbrev pub registers_in : Past → List Register
+  abbrev pub registers_in : Past → List (Option ℕ)
   registers_in q = register_of (mr 0 q) ∷ register_of (mr 1 q) ∷ register_of (mr 2 q) ∷ register_of (mr 3 q) ∷ []
 
   pub registers-in : (q : Past) → registers_of (regs q) (written C q) ≡ registers_in q
@@ -40,7 +40,7 @@ module _ (C : Chip) where
     -- these parts of the records q up to there are the answer
     pub answer-of :
         (q : Past) → up_to rest_at p ≡ q → (v : Verdict) → v ≡ shown_verdict C p t → (banks : List Shown) → banks ≡ table (λ b. shown_of (status C b q rest_at))
-        → (registers : List Register) → registers ≡ registers_in q → (owed : ℕ) → owed ≡ owed_at C.trefi q rest_at
+        → (registers : List (Option ℕ)) → registers ≡ registers_in q → (owed : ℕ) → owed ≡ owed_at C.trefi q rest_at
         → ◌≡◌ {A = End} (record { verdict = v; banks = banks; registers = registers; owed = owed }) (answer C p t)
     unfolding answer
     answer-of q keeps v e banks f registers g owed h = λ i. record {

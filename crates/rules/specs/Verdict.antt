@@ -1,6 +1,6 @@
 -- The verdict on a recording, and the banks, registers and debt at its end: 01, "The recording", below the table of refusals.
 -- Assumes nothing.
-use Rattle.std.specs.Prelude.{ℕ, zero, suc, ◌-◌, ◌≤◌, cond, List, [], ◌∷◌, eqb}
+use Rattle.std.specs.Prelude.{ℕ, zero, suc, ◌-◌, ◌≤◌, cond, Option, List, [], ◌∷◌, eqb}
 use Rattle.laws.specs.Eight.{table}
 use Rattle.records.specs.declared.Record.{Record}
 use Rattle.chip.specs.declared.Chip.{Chip}
@@ -8,9 +8,8 @@ use Rattle.answers.specs.declared.Bank.{Bank}
 use Rattle.answers.specs.declared.Break.{Break}
 use Rattle.answers.specs.declared.Break.TheVariants.{Fine, Broken}
 use Rattle.answers.specs.declared.Verdict.{Verdict}
-use Rattle.answers.specs.declared.Register.{Register as Answered}
+use Rattle.answers.specs.Answer.{shown_of, code_if}
 use Rattle.answers.specs.declared.End.{End}
-use Rattle.answers.specs.Answer.{shown_of}
 use Rattle.rules.specs.Past.{Past, edge, number, up_to}
 use Rattle.rules.specs.Registers.{Register, mr}
 use Rattle.rules.specs.Banks.{status}
@@ -109,8 +108,8 @@ register_at C p t n = mr n (up_to (rest (verdict_to C p t) t) p)
 abbrev pub owed_in : Chip → Past → ℕ → ℕ
 owed_in C p t = let u = rest (verdict_to C p t) t in owed_at C.trefi (up_to u p) u
 
-abbrev pub register_of : Register → Answered
-register_of g = record { written = g.written; code = g.code }
+abbrev pub register_of : Register → Option ℕ
+register_of g = code_if g.written g.code
 
 -- what stands at the end edge t of the recording p: "the verdict, bank states, registers and debt"
 unfoldable pub answer : Chip → Past → (end : ℕ) → End

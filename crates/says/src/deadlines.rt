@@ -10,15 +10,11 @@ use running::{Late, Pick};
 pub fn soonest(dues: [u64; 8], lo: u64, hi: u64) -> Pick
     ensures { Soonest dues lo hi result }
 {
-    let none = Pick { at: hi, bank: 0 };
-    let k0 = better(lo, dues[0], 0, none);
-    let k1 = better(lo, dues[1], 1, k0);
-    let k2 = better(lo, dues[2], 2, k1);
-    let k3 = better(lo, dues[3], 3, k2);
-    let k4 = better(lo, dues[4], 4, k3);
-    let k5 = better(lo, dues[5], 5, k4);
-    let k6 = better(lo, dues[6], 6, k5);
-    better(lo, dues[7], 7, k6)
+    let mut pick = Pick { at: hi, bank: 0 };
+    for (b, &due) in dues.iter().enumerate() {
+        pick = better(lo, due, b as u64, pick);
+    }
+    pick
 }
 
 fn better(lo: u64, d: u64, b: u64, k: Pick) -> Pick

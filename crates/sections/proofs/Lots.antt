@@ -1,6 +1,7 @@
 -- A lot: sections in turn through the judge, and as each rank sees them through a tally. Where the judge takes each of them, all speak of one
 -- recording, the uncut one, a walk over its records finds them where looking back does, and the search finds each where it stands in the files.
 -- Assumes nothing.
+use Rattle.std.specs.Prelude.{Some}
 use Prim.Native.Nat.{ℕ, ◌+◌, ◌*◌, ◌/◌, ◌≤◌, ◌<◌}
 use native.Mathlib.Nat.{zero-div}
 use native.Mathlib.Omega.{arith}
@@ -33,7 +34,6 @@ use Rattle.tally.specs.declared.Tally.{Tally}
 use Rattle.tally.specs.Tally.{start}
 use Rattle.tally.specs.Counts.{total}
 use Rattle.tally.specs.Walk.{start as begin, reached_of}
-use Rattle.tally.specs.declared.Sought.TheVariants.{Here}
 use Rattle.tally.specs.Places.{start_of, records_of, numbered}
 use Rattle.tally.proofs.Walking.{Small, walk, walk_is}
 use Rattle.tally.proofs.Cuts.{run, Tells, sections-tallied, start-stands, Sixes, all-taken}
@@ -146,7 +146,7 @@ pub record FoundLot (files : List (List ℕ)) (cuts : List (List (List ℕ))) : 
   pub same : records_of true files ≡ records (uncut (in_turn cuts))
   -- and each is found where it stands
   pub each : length files < 18446744073709551616 → (limit k : ℕ) → k < length (records_of true files)
-      → find_all (k + 1) true (start_of limit) cuts ≡ Here (numbered limit files k)
+      → find_all (k + 1) true (start_of limit) cuts ≡ Some (numbered limit files k)
 
 module _ (header : List ℕ) (h : Header) (o : Opens header h) (second : Bool) (files : List (List ℕ)) (cuts : List (List (List ℕ))) where
   pub lot-is-found : CutAs true files (map (seen (edition_for header) second) cuts) → AllTaken (open_of header).state (in_turn cuts)

@@ -12,8 +12,8 @@ use lib.ListN.{length, get_or-replicate}
 use borrow.Author.Tests.{ltb-false, le-leb, eq-eqb}
 use Rattle.units.proofs.Rounding.{down-zero}
 use Rattle.header.specs.declared.Header.{Header}
-use Rattle.header.specs.declared.Parsed.{Parsed}
-use Rattle.header.specs.declared.Parsed.TheVariants.{Taken, Refused}
+use Rattle.header.specs.Bytes.{Parsed}
+use Rattle.std.specs.Prelude.{Ok, Err}
 use Rattle.header.specs.Bytes.{edition_for, parsed_of}
 use Rattle.header.specs.Counts.{t_refi}
 use Rattle.header.proofs.Bounds.{bounds}
@@ -30,9 +30,9 @@ use Rattle.edges.specs.Step.{fold_of}
 use Rattle.edges.specs.Ranges.{rank_in_range}
 use Rattle.edges.specs.Ends.{fresh_banks, fresh_acts, fresh_device, fresh_rank, start_rank}
 use Rattle.edges.proofs.Ranging as rank
-use Rattle.judge.specs.declared.Opened.{Opened}
+use Rattle.judge.specs.Answers.{OpenAnswer as Opened}
 use Rattle.judge.specs.declared.State.{State}
-use Rattle.judge.specs.declared.Taken.{Taken as Section}
+use Rattle.judge.specs.Answers.{SectionAnswer as Section}
 use Rattle.judge.specs.Ranges.{ranks_agree, in_range}
 use Rattle.judge.specs.Calls.{start_of, opened_by, open_of, folded, taken_by, section_of}
 use Rattle.judge.proofs.Folds.{fold-kept, level-on}
@@ -139,5 +139,5 @@ unfolding open_of in_range
 refused-out-of-range bytes n = go (parsed_of (edition_for bytes) bytes) n
   where
     go : (p : Parsed) → ((opened_by (edition_for bytes) p).refused ≡ 0 → ⊥) → in_range (opened_by (edition_for bytes) p).state ≡ false
-    go (Taken h) m = absurd (m refl)
-    go (Refused k) m = rw (down-zero 7800000)
+    go (Ok h) m = absurd (m refl)
+    go (Err k) m = rw (down-zero 7800000)

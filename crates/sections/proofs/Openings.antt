@@ -11,7 +11,9 @@ use lib.Dec.{eqb, ltb}
 use lib.ListN.{length, get_or}
 use borrow.Author.Tests.{ltb-false, eqb-true, eq-eqb, ne_eqb}
 use Rattle.header.specs.declared.Header.{Header}
-use Rattle.header.specs.declared.Parsed.TheVariants.{Taken, Refused}
+use Rattle.std.specs.Prelude.{Ok, Err}
+use Rattle.refusals.specs.Refusals.{refusal_of}
+use Rattle.refusals.proofs.Answers.{never_0}
 use Rattle.header.specs.Bins.{bin_of}
 use Rattle.header.specs.Bytes.{header_word, header_of, edition_for, edition, bin, period, zero_a, zero_b, fields_refusal, header_refusal, parsed_of}
 use Rattle.header.proofs.Bounds.{by-bin}
@@ -50,22 +52,22 @@ module _ (a : ℕ) (bytes : List ℕ) where
   pub least-period : header_refusal a bytes ≡ 0 → 1070 ≤ (header_of (header_word bytes)).period.ps
   least-period h = (in-period a (header_word bytes) (fields-taken h)).0
 
-  pub taken_is : (h : Header) → parsed_of a bytes ≡ Taken h → (header_refusal a bytes ≡ 0) × (header_of (header_word bytes) ≡ h)
+  pub taken_is : (h : Header) → parsed_of a bytes ≡ Ok h → (header_refusal a bytes ≡ 0) × (header_of (header_word bytes) ≡ h)
   unfolding parsed_of
   taken_is h e = go (eqb (header_refusal a bytes) 0) refl e
     where
       go :
-          (x : Bool) → eqb (header_refusal a bytes) 0 ≡ x → cond x (Taken (header_of (header_word bytes))) (Refused (header_refusal a bytes)) ≡ Taken h
+          (x : Bool) → eqb (header_refusal a bytes) 0 ≡ x → cond x (Ok (header_of (header_word bytes))) (Err (refusal_of (header_refusal a bytes))) ≡ Ok h
           → (header_refusal a bytes ≡ 0) × (header_of (header_word bytes) ≡ h)
       go true q e = (eqb-true _ _ q, cc)
       go false q e = let z : ◌≡◌ {A = ℕ} 0 1 = cc in absurd (omega arith)
 
-  taken-period : (h : Header) → parsed_of a bytes ≡ Taken h → (1070 ≤ h.period.ps) × (h.period.ps ≤ 3300)
+  taken-period : (h : Header) → parsed_of a bytes ≡ Ok h → (1070 ≤ h.period.ps) × (h.period.ps ≤ 3300)
   taken-period h e =
       let w = taken_is h e in
       subst (λ (x : Header). (1070 ≤ x.period.ps) × (x.period.ps ≤ 3300)) w.1 (in-period a (header_word bytes) (fields-taken w.0))
 
-  pub taken-sound : (h : Header) → parsed_of a bytes ≡ Taken h → Sound (chip_of h)
+  pub taken-sound : (h : Header) → parsed_of a bytes ≡ Ok h → Sound (chip_of h)
   taken-sound h e = let w = taken-period h e in sound h w.0 w.1
 
 -- ── Opening asks for the edition that the first four bits name ──────────────────────────────
@@ -87,5 +89,5 @@ pub opened-header : (bytes : List ℕ) → (open_of bytes).refused ≡ 0 → (h 
 unfolding open_of parsed_of
 opened-header bytes z = let r = header_refusal (edition_for bytes) bytes in elim (ℕ_discrete r 0) [
   | yes q ↦ (header_of (header_word bytes), rw (eq-eqb r 0 q))
-  | no q ↦ absurd (q (rw (ne_eqb r 0 q) at z))
+  | no q ↦ absurd (never_0 (refusal_of r) (rw (ne_eqb r 0 q) at z))
 ]

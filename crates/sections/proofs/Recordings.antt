@@ -11,10 +11,11 @@ use lib.ListN.{length, length-take}
 use lib.Seq.{get_or-take}
 use borrow.Author.Tests.{eq-eqb, ne_eqb, eqb-true, eqb-false, ltb-false}
 use Rattle.header.specs.declared.Header.{Header}
-use Rattle.header.specs.declared.Parsed.{Parsed}
-use Rattle.header.specs.declared.Parsed.TheVariants.{Taken, Refused}
+use Rattle.header.specs.Bytes.{Parsed}
+use Rattle.std.specs.Prelude.{Ok, Err}
 use Rattle.header.specs.Bins.{bin_of}
-use Rattle.header.specs.Bytes.{edition_for, parsed_of, edition, bin, zero_a, zero_b, period, fields_refusal, header_refusal, header_word, header_of, number_of}
+use Rattle.header.specs.Bytes.{edition_for, parsed_of, edition, bin, zero_a, zero_b, period, fields_refusal, header_refusal, header_word, header_of}
+use Rattle.refusals.specs.Refusals.{number_in}
 use Rattle.header.proofs.Answers.{number_is}
 use Rattle.records.specs.Record.{records, has_zero}
 use Rattle.records.proofs.Records.{length-records}
@@ -22,8 +23,8 @@ use Rattle.wide.specs.Editions.{size, view, spare_in, refusal}
 use Rattle.wide.proofs.Editions.{view-count, second-most, second-zero}
 use Rattle.chip.specs.Chip.{chip_of}
 use Rattle.judge.specs.declared.State.{State}
-use Rattle.judge.specs.declared.Closed.{Closed}
-use Rattle.judge.specs.declared.Taken.{Taken as Section}
+use Rattle.judge.specs.Answers.{CloseAnswer as Closed}
+use Rattle.judge.specs.Answers.{SectionAnswer as Section}
 use Rattle.judge.specs.Calls.{opened_by, open_of, section_of, of_second, close_of, closed, not_closed}
 use Rattle.running.specs.Ranges.{limit, last_edge}
 use Rattle.running.specs.Ends.{no_end}
@@ -37,9 +38,9 @@ use Rattle.sections.proofs.Openings.{least-period, taken_is, opened-header}
 use Rattle.sections.proofs.Section.{fits, Stands, refused-by, close-is}
 use Rattle.sections.proofs.Sections.{sound-chip, opened as opened-stands, stands-more}
 
-opened-number : (e : ℕ) (p : Parsed) → (opened_by e p).refused ≡ number_of p
-opened-number e (Taken h) = refl
-opened-number e (Refused n) = refl
+pub opened-number : (e : ℕ) (p : Parsed) → (opened_by e p).refused ≡ number_in p
+opened-number e (Ok h) = refl
+opened-number e (Err n) = refl
 
 -- the first four bits are the header's
 pub same-edition : (bs : List ℕ) → edition_for (header_bytes bs) ≡ edition_for bs

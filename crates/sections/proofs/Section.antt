@@ -20,7 +20,7 @@ use Rattle.edges.specs.declared.Rank.{Rank}
 use Rattle.edges.specs.Step.{fold_of, so_far}
 use Rattle.edges.specs.Ends.{end_of}
 use Rattle.judge.specs.declared.State.{State}
-use Rattle.judge.specs.declared.Taken.{Taken as Answer}
+use Rattle.judge.specs.Answers.{SectionAnswer as Answer}
 use Rattle.judge.specs.Ranges.{in_range}
 use Rattle.judge.specs.Calls.{holding, refuse, take, folded, taken_by, section_of, of_second, closed, not_closed, close_of}
 use Rattle.judge.proofs.Ranging.{tested, section-by}

@@ -16,9 +16,9 @@ use Rattle.wide.proofs.Editions.{even-both, view-none, view-both, view-sixes, se
 use Rattle.chip.specs.Chip.{chip_of}
 use Rattle.edges.specs.Ends.{start_rank}
 use Rattle.judge.specs.declared.State.{State}
-use Rattle.judge.specs.declared.Taken.{Taken as Answer}
-use Rattle.judge.specs.declared.Opened.{Opened}
-use Rattle.judge.specs.declared.Closed.{Closed}
+use Rattle.judge.specs.Answers.{SectionAnswer as Answer}
+use Rattle.judge.specs.Answers.{OpenAnswer as Opened}
+use Rattle.judge.specs.Answers.{CloseAnswer as Closed}
 use Rattle.running.specs.Ranges.{last_edge}
 use Rattle.running.specs.Ends.{no_end}
 use Rattle.judge.specs.Calls.{holding, start_of, open_of, of_second, closed, close_of}

@@ -4,7 +4,7 @@
 use Rattle.std.specs.Prelude.{ℕ, ◌+◌, ◌/◌, ◌%◌, ◌≤◌, ◌≡◌, true, false, cond, ◌||◌, List, ◌++◌, ltb, length}
 use Rattle.laws.specs.Cuts as cuts
 use Rattle.header.specs.declared.Header.{Header}
-use Rattle.header.specs.declared.Parsed.TheVariants.{Taken}
+use Rattle.std.specs.Prelude.{Ok}
 use Rattle.header.specs.Bytes.{edition_for, parsed_of}
 use Rattle.records.specs.Record.{records, has_zero}
 use Rattle.wide.specs.Editions.{size, view, spare_in, refusal}
@@ -23,7 +23,7 @@ use Rattle.carries.specs.Waited.{standing, Waited}
 
 -- opening takes the header h
 abbrev pub Opens : (header : List ℕ) → Header → Type 0
-Opens header h = parsed_of (edition_for header) header ≡ Taken h
+Opens header h = parsed_of (edition_for header) header ≡ Ok h
 
 -- what a section of an edition is where it is not refused after so many records
 pub record Fits (edition count : ℕ) (bs : List ℕ) : Type 0 where

@@ -14,30 +14,41 @@
 // rank's first; a refusal is one.
 #![tactic(auto)]
 
+mod calls;
 mod show;
 
 use judge::State;
+use refusals::Refusal;
 
 // Standard input, by number.
 const STDIN_FILENO: i32 = 0;
 
-// The refusal that ended the case (0: none), and the state.
-#[derive(Clone, Copy)]
-struct Run {
-    refused: u64,
-    state: State,
-}
-
 // At most so many cases.
 const CASES: u64 = 100000;
 
+// What to print: a line after each section, its waiting times too, the whole closing.
+#[derive(Clone, Copy)]
+struct Print {
+    each: bool,
+    waits: bool,
+    whole: bool,
+}
+
+impl From<u8> for Print {
+    fn from(n: u8) -> Print {
+        Print {
+            each: n >= 2,
+            waits: n == 4,
+            whole: n % 2 == 1 || n == 4,
+        }
+    }
+}
+
 fn main() {
-    let mut left = CASES;
-    while left > 0 {
+    for _ in 0..CASES {
         if !answered() {
             return;
         }
-        left -= 1;
     }
 }
 
@@ -47,103 +58,58 @@ fn answered() -> bool {
     if io::read_full(STDIN_FILENO, &mut head) < 18 {
         return false;
     }
-    let header = [
-        head[10], head[11], head[12], head[13], head[14], head[15], head[16], head[17],
-    ];
-    let print = head[0];
-    let end = bits::word(head[2], head[3], head[4], head[5], head[6], head[7]);
-    let start = opened(header, head[1]);
-    let run = judged(start, print, pair(head[8], head[9]));
-    show::close(run, (print % 2 == 1) | (print == 4), end);
+    let [print, length, e0, e1, e2, e3, e4, e5, s0, s1, ..] = head;
+    let print = Print::from(print);
+    let end = bits::word([e0, e1, e2, e3, e4, e5]);
+    let header = &head[10..];
+    let start = State::open(&header[..io::count(length as isize, header)]);
+    let run = judged(start, print, u16::from_be_bytes([s0, s1]));
+    show::close(run, print.whole, end);
     true
 }
 
-fn pair(a: u8, b: u8) -> u16 {
-    a as u16 * 256 + b as u16
-}
-
-fn number(a: u8, b: u8, c: u8, d: u8) -> u32 {
-    ((a as u32 * 256 + b as u32) * 256 + c as u32) * 256 + d as u32
-}
-
-fn opened(header: [u8; 8], length: u8) -> Run {
-    let n = io::count(length as isize, &header);
-    let o = State::open(&header[..n]);
-    let state = o.state;
-    Run {
-        refused: o.refused,
-        state: state,
-    }
-}
-
-fn judged(run: Run, print: u8, sections: u16) -> Run {
+// The state stands in one place, and each section changes it there: handed on in a Result it would be copied several times a section.
+fn judged(start: Result<State, Refusal>, print: Print, sections: u16) -> Result<State, Refusal> {
     let mut space = io::large_buffer();
-    let bytes = sections as u32 * 4;
-    let n = io::count(bytes as isize, &space);
-    judged_by(run, print, &mut space[..n])
-}
-
-fn judged_by(run: Run, print: u8, lengths: &mut [u8]) -> Run {
-    let n = io::read_full(STDIN_FILENO, lengths);
-    all(run, print, &lengths[..n])
-}
-
-// The sections of these lengths.
-fn all(start: Run, print: u8, lengths: &[u8]) -> Run {
-    let mut run = start;
-    let mut at: usize = 0;
-    while 4 <= lengths.len() - at {
-        let n = number(
-            lengths[at],
-            lengths[at + 1],
-            lengths[at + 2],
-            lengths[at + 3],
-        );
-        run = read(run, print, n);
-        at += 4;
+    let lengths = read(u32::from(sections) * 4, &mut space);
+    let mut state = start.unwrap_or(State::unopened());
+    let mut refused = start.err();
+    for &n in lengths.as_chunks::<4>().0 {
+        let mut space = io::large_buffer();
+        let section = read(u32::from_be_bytes(n), &mut space);
+        if refused.is_none() {
+            refused = taken(&mut state, print, section).err();
+        }
     }
-    run
-}
-
-fn read(run: Run, print: u8, length: u32) -> Run {
-    let mut space = io::large_buffer();
-    let n = io::count(length as isize, &space);
-    read_into(run, print, &mut space[..n])
-}
-
-fn read_into(run: Run, print: u8, space: &mut [u8]) -> Run {
-    let n = io::read_full(STDIN_FILENO, space);
-    taken(run, print, &space[..n])
-}
-
-fn taken(run: Run, print: u8, section: &[u8]) -> Run {
-    if run.refused != 0 {
-        return run;
-    }
-    let state = run.state;
-    let t = state.section(section);
-    let next = t.state;
-    if print < 2 {
-        return Run {
-            refused: t.refused,
-            state: next,
-        };
-    }
-    show::so_far(t);
-    if print == 4 {
-        waits(next);
-    }
-    Run {
-        refused: 0,
-        state: next,
+    match refused {
+        None => Ok(state),
+        Some(refusal) => Err(refusal),
     }
 }
 
-fn waits(s: State) {
-    let one = s.one.waits;
-    show::waits(one);
-    if s.edition == 2 {
-        let two = s.two.waits;
-        show::waits(two);
+// So many bytes more of standard input, at the front of space.
+fn read(length: u32, space: &mut [u8]) -> &[u8] {
+    let n = io::count(length as isize, space);
+    let k = io::read_full(STDIN_FILENO, &mut space[..n]);
+    &space[..k]
+}
+
+// Where each section has a line, a refusal is that line, and the state stays.
+fn taken(state: &mut State, print: Print, section: &[u8]) -> Result<(), Refusal> {
+    let taken = state.section(section);
+    if !print.each {
+        *state = taken?.state;
+        return Ok(());
     }
+    match taken {
+        Ok(t) => {
+            *state = t.state;
+            show::verdicts(calls::verdicts(t));
+        }
+        Err(n) => show::refusal(n),
+    }
+    if print.waits {
+        show::waits(calls::waits(*state));
+    }
+    Ok(())
 }

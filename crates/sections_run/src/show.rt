@@ -1,9 +1,11 @@
-// What is printed of a case.
-use crate::Run;
-use answers::{End, Register, Shown, Verdict};
+// What is printed of a case; of edition 2 a line a rank.
+use crate::calls;
+use crate::calls::Ranks;
+use answers::{End, Shown, Verdict};
 use edges::Waits;
-use judge::Taken;
+use judge::State;
 use lines::ROOM;
+use refusals::Refusal;
 
 // Standard output, by number.
 const STDOUT_FILENO: i32 = 1;
@@ -11,61 +13,56 @@ const STDOUT_FILENO: i32 = 1;
 // As an end edge: the last record's.
 const LAST: u64 = 281474976710655;
 
-// Of edition 2 a line a rank.
-pub(crate) fn so_far(t: Taken) {
-    if t.refused != 0 {
-        refusal(t.refused);
-        return;
+pub(crate) fn verdicts(all: Ranks<Verdict>) {
+    line(all.first);
+    if let Some(second) = all.second {
+        line(second);
     }
-    line(t.verdict);
-    if t.state.edition == 2 {
-        line(t.second);
+}
+
+pub(crate) fn waits(all: Ranks<Waits>) {
+    rank_waits(all.first);
+    if let Some(second) = all.second {
+        rank_waits(second);
     }
 }
 
 // Eight of an ACT, of a RD, of a WR and of a PRE, then those of a REF, an MRS, a ZQ and an SRE.
-pub(crate) fn waits(w: Waits) {
-    let act = w.act;
-    let col = w.col;
-    let pre = w.pre;
-    let holds = w.holds;
-    io::print_decimal(STDOUT_FILENO, act[0]);
-    numbers(&act, 1);
-    numbers(&col, 0);
-    numbers(&pre, 0);
-    numbers(&holds, 0);
+fn rank_waits(w: Waits) {
+    io::print_decimal(STDOUT_FILENO, w.act[0]);
+    numbers(&w.act[1..]);
+    numbers(&w.col);
+    numbers(&w.pre);
+    numbers(&w.holds);
     put(b"\n");
 }
 
-fn numbers(all: &[u64], from: usize) {
-    let mut i = from;
-    while i < all.len() {
+fn numbers(all: &[u64]) {
+    for &n in all {
         put(b" ");
-        io::print_decimal(STDOUT_FILENO, all[i]);
-        i += 1;
+        io::print_decimal(STDOUT_FILENO, n);
     }
 }
 
-pub(crate) fn close(run: Run, whole: bool, end: u64) {
-    if run.refused != 0 {
-        refusal(run.refused);
-        return;
-    }
-    let state = run.state;
-    let c = state.close(if end == LAST { state.one.edge } else { end });
-    if c.refused != 0 {
-        refusal(c.refused);
-        return;
-    }
-    let e = c.end;
-    ended(e, whole);
-    if state.edition == 2 {
-        let second = c.second;
-        ended(second, whole);
+pub(crate) fn close(run: Result<State, Refusal>, whole: bool, end: u64) {
+    match run.and_then(|state| closed(state, end)) {
+        Ok(ends) => ended(ends, whole),
+        Err(n) => refusal(n),
     }
 }
 
-fn ended(e: End, whole: bool) {
+fn closed(state: State, end: u64) -> Result<Ranks<End>, Refusal> {
+    calls::closed(state, if end == LAST { state.one.edge } else { end })
+}
+
+fn ended(ends: Ranks<End>, whole: bool) {
+    rank_ended(ends.first, whole);
+    if let Some(second) = ends.second {
+        rank_ended(second, whole);
+    }
+}
+
+fn rank_ended(e: End, whole: bool) {
     if whole {
         closing(e);
     } else {
@@ -73,9 +70,9 @@ fn ended(e: End, whole: bool) {
     }
 }
 
-fn refusal(n: u64) {
+pub(crate) fn refusal(refusal: Refusal) {
     let mut text = [0u8; ROOM];
-    let k = lines::refusal_line(n, &mut text);
+    let k = lines::refusal_line(u64::from(refusal.number()), &mut text);
     put(&text[..k]);
 }
 
@@ -88,13 +85,11 @@ fn line(v: Verdict) {
 fn closing(c: End) {
     words(c.verdict);
     put(b"\t");
-    bytes(answers::verdict_bytes(c.verdict));
+    bytes(&answers::verdict_bytes(c.verdict));
     put(b"\t");
-    let banks = c.banks;
-    print_banks(banks);
+    print_banks(c.banks);
     put(b"\t");
-    let registers = c.registers;
-    print_registers(registers);
+    print_registers(c.registers);
     put(b"\t");
     debt(c.owed);
     put(b"\n");
@@ -106,69 +101,57 @@ fn words(v: Verdict) {
     put(&text[..k]);
 }
 
-fn bytes(b: [u8; 20]) {
-    four(b[0], b[1], b[2], b[3]);
-    four(b[4], b[5], b[6], b[7]);
-    four(b[8], b[9], b[10], b[11]);
-    four(b[12], b[13], b[14], b[15]);
-    four(b[16], b[17], b[18], b[19]);
-}
-
-fn four(a: u8, b: u8, c: u8, d: u8) {
-    io::print_hex(STDOUT_FILENO, a as u64, 2);
-    io::print_hex(STDOUT_FILENO, b as u64, 2);
-    io::print_hex(STDOUT_FILENO, c as u64, 2);
-    io::print_hex(STDOUT_FILENO, d as u64, 2);
+fn bytes(all: &[u8]) {
+    for &b in all {
+        io::print_hex(STDOUT_FILENO, u64::from(b), 2);
+    }
 }
 
 fn print_banks(banks: [Shown; 8]) {
-    bank(banks[0]);
-    next_bank(banks[1]);
-    next_bank(banks[2]);
-    next_bank(banks[3]);
-    next_bank(banks[4]);
-    next_bank(banks[5]);
-    next_bank(banks[6]);
-    next_bank(banks[7]);
+    for (i, &b) in banks.iter().enumerate() {
+        apart(i);
+        bank(b);
+    }
 }
 
-fn next_bank(b: Shown) {
-    put(b" ");
-    bank(b);
+// A space before each but the first.
+fn apart(i: usize) {
+    if i != 0 {
+        put(b" ");
+    }
 }
 
 fn bank(b: Shown) {
-    let status = b.status;
-    match status {
-        0 => put(b"i"),
-        1 => row(b"o", b),
-        _ => row(b"c", b),
+    match b {
+        Shown::Idle => put(b"i"),
+        Shown::Open { row, act } => active(b"o", row, act),
+        Shown::Closing { row, act } => active(b"c", row, act),
     }
 }
 
-fn row(status: &[u8], b: Shown) {
+fn active(status: &[u8], row: u64, act: u64) {
     put(status);
-    io::print_hex(STDOUT_FILENO, b.row, 4);
+    io::print_hex(STDOUT_FILENO, row, 4);
     put(b"@");
-    io::print_decimal(STDOUT_FILENO, b.act);
+    io::print_decimal(STDOUT_FILENO, act);
 }
 
-fn print_registers(registers: [Register; 4]) {
-    register(registers[0]);
-    put(b" ");
-    register(registers[1]);
-    put(b" ");
-    register(registers[2]);
-    put(b" ");
-    register(registers[3]);
-}
-
-fn register(r: Register) {
-    if r.written {
-        io::print_hex(STDOUT_FILENO, r.code as u64, 4);
-    } else {
-        put(b"-");
+fn print_registers(registers: [Option<u16>; 4]) {
+    for (i, &code) in registers.iter().enumerate() {
+        apart(i);
+        register(code);
     }
+}
+
+fn register(code: Option<u16>) {
+    match code {
+        Some(code) => hex(code),
+        None => put(b"-"),
+    }
+}
+
+fn hex(code: u16) {
+    io::print_hex(STDOUT_FILENO, u64::from(code), 4);
 }
 
 // owed is the debt + 8.

@@ -1,9 +1,8 @@
 -- What each public function answers, by name: cited by its `ensures`, and by its line in `proofs/Answers.antt` that two answers are
 -- equal.
 -- Assumes nothing.
-use Rattle.std.specs.Prelude.{ℕ, Bool, List, ◌≡◌}
+use Rattle.std.specs.Prelude.{ℕ, Bool, Option, List, ◌≡◌}
 use Rattle.answers.specs.declared.End.{End}
-use Rattle.answers.specs.declared.Register.{Register}
 use Rattle.answers.specs.declared.Verdict.{Verdict}
 use Rattle.chip.specs.declared.Chip.{Chip}
 use Rattle.chip.specs.declared.Regs.{Regs}
@@ -32,7 +31,7 @@ abbrev pub NoEnd : (r : End) → Type 0
 NoEnd r = r ≡ no_end
 
 -- `registers_of`
-abbrev pub RegistersOf : (g : Regs) (w : Written) (r : List Register) → Type 0
+abbrev pub RegistersOf : (g : Regs) (w : Written) (r : List (Option ℕ)) → Type 0
 RegistersOf g w r = r ≡ registers_of g w
 
 -- `so_far`

@@ -10,14 +10,11 @@ use edges::{Debt, Rank};
 pub fn in_range(s: Rank) -> bool
     ensures { InRange s result }
 {
-    let actat = s.banks.actat;
-    let ring = s.acts.at;
-    let device = s.device.at;
     counted(s.count, s.edge)
         & (debt_ok(s.edge, s.debt)
             & ((s.acts.turn <= 3)
                 & ((s.first.edge <= 17592186044416)
-                    & (edge_ok(device[6]) & (banks_ok(actat) & ring_ok(ring))))))
+                    & (edge_ok(s.device.at[6]) & (edges_ok(s.banks.actat) & edges_ok(s.acts.at))))))
 }
 
 pub fn is_small(chip: Chip) -> bool
@@ -65,26 +62,12 @@ fn near(edge: u64, due: u64) -> bool
     due - edge <= 1190000000
 }
 
-fn banks_ok(at: [u64; 8]) -> bool
-    ensures { result ≡ ranges.edges_ok at 8 }
+fn edges_ok<const N: usize>(at: [u64; N]) -> bool
+    ensures { result ≡ ranges.edges_ok at.entry N }
 {
     let mut ok = true;
-    let mut i: usize = 0;
-    while i < 8 {
-        ok = ok & edge_ok(at[i]);
-        i += 1;
-    }
-    ok
-}
-
-fn ring_ok(at: [u64; 4]) -> bool
-    ensures { result ≡ ranges.edges_ok at 4 }
-{
-    let mut ok = true;
-    let mut i: usize = 0;
-    while i < 4 {
-        ok = ok & edge_ok(at[i]);
-        i += 1;
+    for &e in &at {
+        ok = ok & edge_ok(e);
     }
     ok
 }

@@ -1,7 +1,7 @@
 // What a rank shows: no end, its registers, the verdict so far.
 ghost use Rattle.still.specs.Promises.{NoEnd, RegistersOf, SoFar};
 
-use answers::{End, Register, Shown, Verdict};
+use answers::{End, Shown, Verdict};
 use chip::Regs;
 use edges::Rank;
 use running::Written;
@@ -10,45 +10,22 @@ use says::{clean_at, none};
 pub fn no_end() -> End
     ensures { NoEnd result }
 {
-    let b = Shown {
-        status: 0,
-        row: 0,
-        act: 0,
-    };
-    let g = Register {
-        written: false,
-        code: 0,
-    };
-    let banks = [b; 8];
-    let registers = [g; 4];
     End {
         verdict: none(),
-        banks: banks,
-        registers: registers,
+        banks: [Shown::Idle; 8],
+        registers: [None; 4],
         owed: 0,
     }
 }
 
-pub fn registers_of(g: Regs, w: Written) -> [Register; 4]
+pub fn registers_of(g: Regs, w: Written) -> [Option<u16>; 4]
     ensures { RegistersOf g w result }
 {
     [
-        Register {
-            written: w.w0,
-            code: g.mr0,
-        },
-        Register {
-            written: w.w1,
-            code: g.mr1,
-        },
-        Register {
-            written: w.w2,
-            code: g.mr2,
-        },
-        Register {
-            written: w.w3,
-            code: g.mr3,
-        },
+        w.w0.then_some(g.mr0),
+        w.w1.then_some(g.mr1),
+        w.w2.then_some(g.mr2),
+        w.w3.then_some(g.mr3),
     ]
 }
 

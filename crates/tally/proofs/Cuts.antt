@@ -1,7 +1,7 @@
 -- What a tally says of a recording: however it is cut into sections, and whichever of them are refused, each count is the number of
 -- records of that kind that the taken sections make together, and the counts sum to the number of records.
 -- Assumes nothing.
-use Rattle.std.proofs.Common.{◌≡◌, ℕ, ◌+◌, ◌/◌, ◌%◌, ◌<◌, ◌≤◌, Bool, true, false, cond, eqb, List, [], ◌∷◌, ◌++◌, length, get_or, sym, refl, ap, ◌∙◌, arith, length-append, eq-eqb, eqb-true}
+use Rattle.std.proofs.Common.{Result, Ok, Err, ◌≡◌, ℕ, ◌+◌, ◌/◌, ◌%◌, ◌<◌, ◌≤◌, Bool, true, false, cond, eqb, List, [], ◌∷◌, ◌++◌, length, get_or, sym, refl, ap, ◌∙◌, arith, length-append, eq-eqb, eqb-true}
 use mathlib.Core.List.{reverse_aux}
 use Rattle.records.specs.declared.Record.{Record}
 use Rattle.records.specs.Command.{a10}
@@ -10,9 +10,10 @@ use Rattle.rules.specs.Past.{Past, number, cke, asleep, command, recording}
 use Rattle.rules.proofs.Cutting.{number-all, recording-append}
 use Rattle.records.proofs.Records.{length-records}
 use Rattle.tally.specs.declared.Tally.{Tally}
-use Rattle.tally.specs.declared.Tallied.{Tallied}
+use Rattle.refusals.specs.declared.Refusal.{Refusal}
+use Rattle.refusals.specs.declared.Refusal.TheVariants.{CutShort, State}
 use Rattle.tally.specs.Kinds.{kind_of, kind_at}
-use Rattle.tally.specs.Tally.{start, step_of, fold_of, largest, in_range, take, refuse, section_of}
+use Rattle.tally.specs.Tally.{start, step_of, fold_of, largest, in_range, section_of, refused_of, behind}
 use Rattle.tally.specs.Counts.{count_of, nineteen, tally_of, total}
 use Rattle.tally.proofs.Ranging.{in-range}
 use Rattle.tally.proofs.Nineteen.{kind-below, raised_at_lem, at-nineteen, total-raised, below_total}
@@ -53,28 +54,28 @@ count_most p k = omega (arith, below_total (tally_of p).counts k, sum_is p)
 -- ── A section ───────────────────────────────────────────────────────────────────────────────
 
 module _ (t : Tally) (xs : List ℕ) where
-  abbrev answer_by : (ranged sixes : Bool) → Tallied
-  answer_by x y = cond x (cond y (take (fold_of t (records xs))) (refuse 5 t)) (refuse 17 t)
+  abbrev answer_by : (ranged sixes : Bool) → Result Tally Refusal
+  answer_by x y = cond x (cond y (Ok (fold_of t (records xs))) (Err CutShort)) (Err State)
 
   section-by : section_of t xs ≡ answer_by (in_range t.counts) (eqb (length xs % 6) 0)
   unfolding section_of
   section-by = refl
 
-  pub section-taken : (section_of t xs).refused ≡ 0 → (length xs % 6 ≡ 0) × ((section_of t xs).tally ≡ fold_of t (records xs))
+  pub section-taken : refused_of (section_of t xs) ≡ 0 → (length xs % 6 ≡ 0) × (behind t (section_of t xs) ≡ fold_of t (records xs))
   unfolding section_of
   section-taken h = go (in_range t.counts) (eqb (length xs % 6) 0) refl h
     where
-      go : (x y : Bool) → eqb (length xs % 6) 0 ≡ y → (answer_by x y).refused ≡ 0
-          → (length xs % 6 ≡ 0) × ((answer_by x y).tally ≡ fold_of t (records xs))
+      go : (x y : Bool) → eqb (length xs % 6) 0 ≡ y → refused_of (answer_by x y) ≡ 0
+          → (length xs % 6 ≡ 0) × (behind t (answer_by x y) ≡ fold_of t (records xs))
       go true true e z = (eqb-true _ _ e, refl)
       go true false e z = absurd (omega arith)
       go false y e z = absurd (omega arith)
 
-  pub section-refused : ((section_of t xs).refused ≡ 0 → ⊥) → (section_of t xs).tally ≡ t
+  pub section-refused : (refused_of (section_of t xs) ≡ 0 → ⊥) → behind t (section_of t xs) ≡ t
   unfolding section_of
   section-refused h = go (in_range t.counts) (eqb (length xs % 6) 0) h
     where
-      go : (x y : Bool) → ((answer_by x y).refused ≡ 0 → ⊥) → (answer_by x y).tally ≡ t
+      go : (x y : Bool) → (refused_of (answer_by x y) ≡ 0 → ⊥) → behind t (answer_by x y) ≡ t
       go true true z = absurd (z refl)
       go true false z = refl
       go false y z = refl
@@ -82,10 +83,10 @@ module _ (t : Tally) (xs : List ℕ) where
 -- ── Sections in turn ────────────────────────────────────────────────────────────────────────
 
 abbrev section_is : Tally → List ℕ → Tally
-section_is t xs = (section_of t xs).tally
+section_is t xs = behind t (section_of t xs)
 
 abbrev refused_is : Tally → List ℕ → ℕ
-refused_is t xs = (section_of t xs).refused
+refused_is t xs = refused_of (section_of t xs)
 
 -- the tally after the sections, offered in turn, and the bytes of those that are taken
 abbrev pub run : Tally → List (List ℕ) → Tally
@@ -128,7 +129,7 @@ pub record Tells (bs : List ℕ) (t : Tally) : Type 0 where
   pub sum : total t.counts ≡ number (recording bs)
   pub number_is : number (recording bs) ≡ length bs / 6
   -- 17 is not given up to so many records
-  pub refused : length bs / 6 ≤ largest → (xs : List ℕ) → (section_of t xs).refused ≡ cond (eqb (length xs % 6) 0) 0 5
+  pub refused : length bs / 6 ≤ largest → (xs : List ℕ) → refused_of (section_of t xs) ≡ cond (eqb (length xs % 6) 0) 0 5
 
 tells : (bs : List ℕ) (t : Tally) → Stands bs t → Tells bs t
 tells bs t s = record {
@@ -137,7 +138,7 @@ tells bs t s = record {
   each = λ k h. ap (λ (u : Tally). get_or u.counts k 0) s.whole ∙ at-nineteen (λ j. count_of j (recording bs)) k h;
   sum = ap (λ (u : Tally). total u.counts) s.whole ∙ sum_is (recording bs);
   number_is = count;
-  refused = λ most xs. ap (λ (r : Tallied). r.refused) (section-by t xs) ∙ go xs (eqb (length xs % 6) 0) (ranged most);
+  refused = λ most xs. ap refused_of (section-by t xs) ∙ go xs (eqb (length xs % 6) 0) (ranged most);
 }
   where
     count : number (recording bs) ≡ length bs / 6
@@ -146,7 +147,7 @@ tells bs t s = record {
     ranged : length bs / 6 ≤ largest → in_range t.counts ≡ true
     ranged most = rw s.whole (in-range (tally_of (recording bs)).counts (λ k. omega (arith, count_most (recording bs) k, count)))
 
-    go : (xs : List ℕ) (y : Bool) → in_range t.counts ≡ true → (answer_by t xs (in_range t.counts) y).refused ≡ cond y 0 5
+    go : (xs : List ℕ) (y : Bool) → in_range t.counts ≡ true → refused_of (answer_by t xs (in_range t.counts) y) ≡ cond y 0 5
     go xs true h = rw h
     go xs false h = rw h
 
@@ -192,7 +193,7 @@ every-cut os even most spare =
 
 pub cut-same :
     (os : List Offer) → Sixes (parts os) → length (whole os) / 6 ≤ largest → cuts.Spare section_is refused_is start os
-    → run start (offered os) ≡ (section_of start (whole os)).tally
+    → run start (offered os) ≡ behind start (section_of start (whole os))
 cut-same os even most spare =
     machine.cut-same section_is refused_is Stands takes leaves Fits Six fits cut (λ bs s t a b. a.whole ∙ sym b.whole) os start start-stands even
     (record { sixes = uncut-sixes (parts os) even; room = omega (arith, most) }) spare

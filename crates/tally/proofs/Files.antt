@@ -1,7 +1,7 @@
 -- The records of a lot are found where they stand: however its files are cut into sections, the search for a number answers the record of that
 -- number in the files as given.
 -- Assumes nothing.
-use Rattle.std.proofs.Common.{◌≡◌, ℕ, ◌+◌, ◌-◌, ◌*◌, ◌<◌, ◌≤◌, Bool, true, false, ltb, List, [], ◌∷◌, ◌++◌, map, length, get_or, take, sym, refl, ap, ◌∙◌, ⊎_elim, append_assoc, add-one, arith, ltb-false, ltb-true}
+use Rattle.std.proofs.Common.{Some, None, ◌≡◌, ℕ, ◌+◌, ◌-◌, ◌*◌, ◌<◌, ◌≤◌, Bool, true, false, ltb, List, [], ◌∷◌, ◌++◌, map, length, get_or, take, sym, refl, ap, ◌∙◌, ⊎_elim, append_assoc, add-one, arith, ltb-false, ltb-true}
 use mathlib.Core.List.{reverse_aux}
 use lib.Seq.{take-append-le, take-append-add}
 use Rattle.records.specs.Record.{fields_of, records, record_at, word_at, words}
@@ -12,7 +12,6 @@ use Rattle.rules.proofs.Cutting.{number-all, reverse-append}
 use Rattle.records.proofs.Records.{records-append}
 use Rattle.rules.proofs.Generic.{decide}
 use Rattle.tally.specs.declared.Placed.{Placed}
-use Rattle.tally.specs.declared.Sought.TheVariants.{Here, Elsewhere}
 use Rattle.tally.specs.Walk.{event_of}
 use Rattle.tally.specs.Places.{skip_of, start_of, begun_of}
 use Rattle.tally.specs.Places.{body_of, records_of, holds, files_before, byte_of, file_of, numbered}
@@ -87,14 +86,14 @@ module _ (t : ℕ) where
       room = omega (arith, fits, skip-most h)
 
       found_first : (k n : ℕ) → n ≡ number p + 1 + k → ltb k (holds h bs) ≡ true
-          → find_in n (begun_of (spot_of t f p a) h) xss ≡ Here (numbered_from p h (bs ∷ files) k (f + 1))
+          → find_in n (begun_of (spot_of t f p a) h) xss ≡ Some (numbered_from p h (bs ∷ files) k (f + 1))
       found_first k n e y =
           ap (λ s. find_in n s xss) begun ∙ find-file h bs xss c (spot_of t (f + 1) p (skip_of h)) n
           ∙ find_at t (f + 1) (words (body_of h bs)) k (skip_of h) p q.reach fits room (omega (arith, count-words h bs, ltb-true k (holds h bs) y)) n
           (skip_of h + 6 * k) e refl
-          ∙ ap Here (first-is k (f + 1) y)
+          ∙ ap Some (first-is k (f + 1) y)
 
-      found-later : (n : ℕ) → number p + holds h bs < n → n < 18446744073709551616 → find_in n (begun_of (spot_of t f p a) h) xss ≡ Elsewhere
+      found-later : (n : ℕ) → number p + holds h bs < n → n < 18446744073709551616 → find_in n (begun_of (spot_of t f p a) h) xss ≡ None
       found-later n l m =
           ap (λ s. find_in n s xss) begun ∙ find-file h bs xss c (spot_of t (f + 1) p (skip_of h)) n
           ∙ find_none n (words (body_of h bs)) (spot_of t (f + 1) p (skip_of h)) (omega (arith, count-words h bs)) m
@@ -124,25 +123,25 @@ module _ (t : ℕ) where
 
       -- found in the first file
       found_here : (cuts : List (List (List ℕ))) (k n : ℕ) → n ≡ number p + 1 + k → ltb k (holds h bs) ≡ true
-          → find_all n h (spot_of t f p a) (xss ∷ cuts) ≡ Here (numbered_from p h (bs ∷ files) k (f + files_before h (bs ∷ files) k + 1))
+          → find_all n h (spot_of t f p a) (xss ∷ cuts) ≡ Some (numbered_from p h (bs ∷ files) k (f + files_before h (bs ∷ files) k + 1))
       found_here cuts k n e y =
           ap (λ x. first x (find_all n false (pass_in (begun_of (spot_of t f p a) h) xss) cuts)) (found_first k n e y)
-          ∙ ap (λ (file : ℕ). Here (numbered_from p h (bs ∷ files) k file)) (rw y (omega arith))
+          ∙ ap (λ (file : ℕ). Some (numbered_from p h (bs ∷ files) k file)) (rw y (omega arith))
 
       -- or in a later one
       found-there : (cuts : List (List (List ℕ))) (k n : ℕ) → n ≡ number p + 1 + k → n ≤ limit → ltb k (holds h bs) ≡ false
           → find_all n false (spot_of t (f + 1) onward behind) cuts
-          ≡ Here (numbered_from onward false files (k - holds h bs) (f + 1 + files_before false files (k - holds h bs) + 1))
-          → find_all n h (spot_of t f p a) (xss ∷ cuts) ≡ Here (numbered_from p h (bs ∷ files) k (f + files_before h (bs ∷ files) k + 1))
+          ≡ Some (numbered_from onward false files (k - holds h bs) (f + 1 + files_before false files (k - holds h bs) + 1))
+          → find_all n h (spot_of t f p a) (xss ∷ cuts) ≡ Some (numbered_from p h (bs ∷ files) k (f + files_before h (bs ∷ files) k + 1))
       found-there cuts k n e m z more =
           goes_on cuts n (omega (arith, e, ltb-false k (holds h bs) z)) (omega (arith, m)) ∙ more
-          ∙ ap Here (later-is k (f + 1 + files_before false files (k - holds h bs) + 1) z)
-          ∙ ap (λ (file : ℕ). Here (numbered_from p h (bs ∷ files) k file)) (rw z (omega arith))
+          ∙ ap Some (later-is k (f + 1 + files_before false files (k - holds h bs) + 1) z)
+          ∙ ap (λ (file : ℕ). Some (numbered_from p h (bs ∷ files) k file)) (rw z (omega arith))
 
   found_from :
       (files : List (List ℕ)) (cuts : List (List (List ℕ))) (h : Bool) (p : Past) (f a k n : ℕ) → CutAs h files cuts → Room h files p f
       → k < length (records_of h files) → n ≡ number p + 1 + k
-      → find_all n h (spot_of t f p a) cuts ≡ Here (numbered_from p h files k (f + files_before h files k + 1))
+      → find_all n h (spot_of t f p a) cuts ≡ Some (numbered_from p h files k (f + files_before h files k + 1))
   found_from [] cuts h p f a k n c q l e = absurd (omega (arith, l))
   found_from (bs ∷ files) [] h p f a k n c q l e = absurd c
   found_from (bs ∷ files) (xss ∷ cuts) h p f a k n c q l e = ⊎_elim
@@ -155,7 +154,7 @@ module _ (t : ℕ) where
 
   none_from :
       (files : List (List ℕ)) (cuts : List (List (List ℕ))) (h : Bool) (p : Past) (f a n : ℕ) → CutAs h files cuts → Room h files p f
-      → number p + length (records_of h files) < n → n < 18446744073709551616 → find_all n h (spot_of t f p a) cuts ≡ Elsewhere
+      → number p + length (records_of h files) < n → n < 18446744073709551616 → find_all n h (spot_of t f p a) cuts ≡ None
   none_from [] [] h p f a n c q l m = refl
   none_from [] (xss ∷ cuts) h p f a n c q l m = absurd c
   none_from (bs ∷ files) [] h p f a n c q l m = absurd c
@@ -172,14 +171,14 @@ module _ (t : ℕ) (files : List (List ℕ)) (cuts : List (List (List ℕ))) (c 
   start-room = record { reach = omega arith; most = omega (arith, most); few = omega (arith, few) }
 
   -- each record is found where it stands
-  pub search_is : (k : ℕ) → k < length (records_of true files) → find_all (k + 1) true (start_of t) cuts ≡ Here (numbered t files k)
+  pub search_is : (k : ℕ) → k < length (records_of true files) → find_all (k + 1) true (start_of t) cuts ≡ Some (numbered t files k)
   unfolding asleep
   search_is k l =
       found_from t files cuts true [] 0 0 k (k + 1) c start-room l (omega arith)
-      ∙ ap (λ (file : ℕ). Here (numbered_from t [] true files k file)) (omega arith)
+      ∙ ap (λ (file : ℕ). Some (numbered_from t [] true files k file)) (omega arith)
 
   -- and no other
-  pub search-none : (n : ℕ) → length (records_of true files) < n → n < 18446744073709551616 → find_all n true (start_of t) cuts ≡ Elsewhere
+  pub search-none : (n : ℕ) → length (records_of true files) < n → n < 18446744073709551616 → find_all n true (start_of t) cuts ≡ None
   unfolding asleep
   search-none n l m = none_from t files cuts true [] 0 0 n c start-room (omega (arith, l)) m
 

@@ -4,10 +4,8 @@ pub mod Folds
 pub mod Nineteen
 pub mod Cuts
 pub mod Walking
-pub mod Going
 pub mod Placing
 pub mod Seeking
 pub mod Standing
 pub mod Files
-pub mod Zero
 pub mod Answers

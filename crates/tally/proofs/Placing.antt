@@ -1,13 +1,12 @@
 -- The walk and the search over words: each word is found behind those before it, as looking back has it.
 -- Assumes nothing.
-use Rattle.std.proofs.Common.{◌≡◌, ℕ, zero, suc, ◌+◌, ◌*◌, ◌<◌, ◌≤◌, List, [], ◌∷◌, map, length, get_or, take, refl, ap, arith, eq-eqb, ne_eqb}
+use Rattle.std.proofs.Common.{Some, None, ◌≡◌, ℕ, zero, suc, ◌+◌, ◌*◌, ◌<◌, ◌≤◌, List, [], ◌∷◌, map, length, get_or, take, refl, ap, arith, eq-eqb, ne_eqb}
 use mathlib.Core.List.{reverse_aux}
 use Rattle.records.specs.Record.{fields_of}
 use Rattle.running.specs.Ranges.{limit}
 use Rattle.rules.specs.Past.{Past, number, edge}
 use Rattle.tally.specs.declared.Spot.{Spot}
 use Rattle.tally.specs.declared.Placed.{Placed}
-use Rattle.tally.specs.declared.Sought.TheVariants.{Here, Elsewhere}
 use Rattle.tally.specs.Walk.{wrapped, next_of, reached_of, event_of}
 use Rattle.tally.specs.Places.{after_of, passed_of, placed_of, find_of}
 use Rattle.tally.proofs.Walking.{Small, keeps, next-is, found-is}
@@ -56,11 +55,11 @@ module _ (t f : ℕ) where
   pub find_at :
       (ws : List ℕ) (i a : ℕ) (p : Past) → Reachable p → number p + length ws ≤ limit → a + 6 * length ws < 18446744073709551616 → i < length ws
       → (n b : ℕ) → n ≡ number p + 1 + i → b ≡ a + 6 * i
-      → find_of n (spot_of p a) ws ≡ Here (found_at (reverse_aux (take i (map fields_of ws)) p) b (get_or ws i 0))
+      → find_of n (spot_of p a) ws ≡ Some (found_at (reverse_aux (take i (map fields_of ws)) p) b (get_or ws i 0))
   find_at [] i a p e m h l n b en eb = absurd (omega arith)
   find_at (w ∷ ws) zero a p e m h l n b en eb =
       let same : b ≡ a = omega arith in
-      rw (eq-eqb (wrapped (number p + 1)) n (omega arith), same) (ap Here (placed-is w a p e (omega arith)))
+      rw (eq-eqb (wrapped (number p + 1)) n (omega arith), same) (ap Some (placed-is w a p e (omega arith)))
   find_at (w ∷ ws) (suc i) a p e m h l n b en eb =
       rw (ne_eqb (wrapped (number p + 1)) n (λ x. omega arith), after_is w a p e (omega arith) (omega arith))
       (find_at ws i (a + 6) (fields_of w ∷ p) (reachable-next w p e) (omega arith) (omega arith) (omega arith) n b (omega arith) (omega arith))
@@ -74,7 +73,7 @@ module _ (t f : ℕ) where
       (pass-is ws (a + 6) (fields_of w ∷ p) (reachable-next w p e) (omega arith) (omega arith) b (omega arith))
 
 -- a number behind all of them
-pub find_none : (n : ℕ) (ws : List ℕ) (s : Spot) → s.reached.number + length ws < n → n < 18446744073709551616 → find_of n s ws ≡ Elsewhere
+pub find_none : (n : ℕ) (ws : List ℕ) (s : Spot) → s.reached.number + length ws < n → n < 18446744073709551616 → find_of n s ws ≡ None
 unfolding after_of next_of
 find_none n [] s h m = refl
 find_none n (w ∷ ws) s h m =

@@ -1,18 +1,8 @@
 -- The range of a tally's counts: the test, one count after the other, and what it tells.
 -- Assumes nothing.
-use Rattle.std.proofs.Common.{◌≡◌, ℕ, zero, suc, ◌+◌, ◌<◌, ◌≤◌, Bool, true, false, cond, ltb, List, [], ◌∷◌, length, get_or, drop, refl, add-one, arith, drop_of_length-le, drop-cons, ltb-false, le-ltb, lt-ltb}
+use Rattle.std.proofs.Common.{◌≡◌, ℕ, zero, suc, ◌<◌, ◌≤◌, Bool, true, false, cond, ltb, List, [], ◌∷◌, ◌↔◌, IsTrue, EachIndex, slice_index, length, get_or, refl, arith, ltb-false, le-ltb}
 use Rattle.rules.proofs.Events.{never}
 use Rattle.tally.specs.Tally.{largest, in_range}
-
-module _ (ns : List ℕ) (i : ℕ) where
-  pub range-hit : i < length ns → largest < get_or ns i 0 → in_range (drop i ns) ≡ false
-  range-hit h l = rw (drop-cons ns i 0 h, lt-ltb largest (get_or ns i 0) l)
-
-  pub range-pass : i < length ns → get_or ns i 0 ≤ largest → in_range (drop (i + 1) ns) ≡ in_range (drop i ns)
-  range-pass h l = rw (add-one i, drop-cons ns i 0 h, le-ltb largest (get_or ns i 0) l)
-
-  pub range-end : length ns ≤ i → in_range (drop i ns) ≡ true
-  range-end h = rw (drop_of_length-le)
 
 -- what the test tells of each count
 pub range_at : (ns : List ℕ) → in_range ns ≡ true → (k : ℕ) → get_or ns k 0 ≤ largest
@@ -26,6 +16,18 @@ range_at (n ∷ ns) h k = go (ltb largest n) refl h (range_at ns) k
     go false e z rest (suc k) = rest z k
 
 -- and the other way round
+within : (ns : List ℕ) → ((k : ℕ) → k < length ns → get_or ns k 0 ≤ largest) → in_range ns ≡ true
+within [] h = refl
+within (n ∷ ns) h = rw (le-ltb largest n (h 0 (omega arith))) (within ns (λ k l. h (suc k) (omega (arith, l))))
+
 pub in-range : (ns : List ℕ) → ((k : ℕ) → get_or ns k 0 ≤ largest) → in_range ns ≡ true
-in-range [] h = refl
-in-range (n ∷ ns) h = rw (le-ltb largest n (h 0)) (in-range ns (λ k. h (suc k)))
+in-range ns h = within ns (λ k l. h k)
+
+-- so it is what a test of each place answers
+pub range_is : (ns : List ℕ) (r : Bool) → (IsTrue r ↔ EachIndex ns (λ k. slice_index ns k ≤ largest)) → in_range ns ≡ r
+range_is ns true h = within ns (h.0 refl)
+range_is ns false h = go (in_range ns) refl
+  where
+    go : (x : Bool) → in_range ns ≡ x → in_range ns ≡ false
+    go false e = e
+    go true e = never (h.1 (λ k l. range_at ns e k)) refl

@@ -1,11 +1,10 @@
 -- Sections in turn, and files in turn: a file's sections have what the file has, wherever it is cut between records.
 -- Assumes nothing.
-use Rattle.std.proofs.Common.{◌≡◌, ℕ, ◌+◌, ◌%◌, Bool, true, false, cond, eqb, ◌⊎◌, List, [], ◌∷◌, ◌++◌, length, sym, refl, ap, ◌∙◌, inl, inr, append-nil}
+use Rattle.std.proofs.Common.{Option, Some, ◌≡◌, ℕ, ◌+◌, ◌%◌, Bool, true, false, cond, eqb, ◌⊎◌, List, [], ◌∷◌, ◌++◌, length, sym, refl, ap, ◌∙◌, inl, inr, append-nil}
 use Rattle.records.specs.Record.{fields_of, words}
 use Rattle.records.proofs.Words.{words_append}
+use Rattle.tally.specs.declared.Placed.{Placed}
 use Rattle.tally.specs.declared.Spot.{Spot}
-use Rattle.tally.specs.declared.Sought.{Sought}
-use Rattle.tally.specs.declared.Sought.TheVariants.{Here}
 use Rattle.tally.specs.Walk.{wrapped}
 use Rattle.tally.specs.Places.{after_of, passed_of, placed_of, find_of, body_of}
 use Rattle.tally.specs.Search.{first, pass_in, find_in, Between, Cut}
@@ -24,8 +23,8 @@ find-append n (w ∷ ws) vs s =
     go (eqb (wrapped (s.reached.number + 1)) n) (find_of n m (ws ++ vs)) (find_of n m ws) (find_of n (passed_of m ws) vs) (find-append n ws vs m)
   where
     go :
-        (x : Bool) (a b c : Sought) → a ≡ first b c
-        → cond x (Here (placed_of s (fields_of w) w)) a ≡ first (cond x (Here (placed_of s (fields_of w) w)) b) c
+        (x : Bool) (a b c : Option Placed) → a ≡ first b c
+        → cond x (Some (placed_of s (fields_of w) w)) a ≡ first (cond x (Some (placed_of s (fields_of w) w)) b) c
     go true a b c e = refl
     go false a b c e = e
 

@@ -1,12 +1,10 @@
 -- Where the records of a lot stand in its files, and which of them has a number: by a walk over sections of bytes, and in the files as given.
 -- Assumes nothing.
-use Rattle.std.specs.Prelude.{ℕ, ◌+◌, ◌-◌, ◌*◌, ◌/◌, Bool, true, false, cond, List, [], ◌∷◌, ◌++◌, reverse, length, take, drop, ◌==◌, nat_lt, slice_index_or}
+use Rattle.std.specs.Prelude.{Option, Some, None, ℕ, ◌+◌, ◌-◌, ◌*◌, ◌/◌, Bool, true, false, cond, List, [], ◌∷◌, ◌++◌, reverse, length, take, drop, ◌==◌, nat_lt, slice_index_or}
 use Rattle.records.specs.declared.Record.{Record}
 use Rattle.records.specs.Record.{fields_of, records, word_at, record_at}
 use Rattle.tally.specs.declared.Spot.{Spot}
 use Rattle.tally.specs.declared.Placed.{Placed}
-use Rattle.tally.specs.declared.Sought.{Sought}
-use Rattle.tally.specs.declared.Sought.TheVariants.{Here, Elsewhere}
 use Rattle.tally.specs.Walk.{start, wrapped, next_of, found_of, event_of}
 
 -- the bytes of a file before its first record: six of a header
@@ -37,10 +35,10 @@ unfoldable pub placed_of : Spot → Record → (word : ℕ) → Placed
 placed_of s r w = record { found = found_of s.reached r; file = s.file; at = s.at; word = w }
 
 -- the section's record of number n
-abbrev pub find_of : (n : ℕ) → Spot → (words : List ℕ) → Sought
-find_of n s [] = Elsewhere
+abbrev pub find_of : (n : ℕ) → Spot → (words : List ℕ) → Option Placed
+find_of n s [] = None
 find_of n s (w ∷ ws) =
-    cond (wrapped (s.reached.number + 1) == n) (Here (placed_of s (fields_of w) w)) (find_of n (after_of s (fields_of w)) ws)
+    cond (wrapped (s.reached.number + 1) == n) (Some (placed_of s (fields_of w) w)) (find_of n (after_of s (fields_of w)) ws)
 
 -- ── In the files as given ───────────────────────────────────────────────────────────────────
 

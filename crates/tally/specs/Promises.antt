@@ -1,15 +1,15 @@
 -- What each public function answers, by name: cited by its `ensures`, and by its line in `proofs/Answers.antt` that two answers are
 -- equal.
 -- Assumes nothing.
-use Rattle.std.specs.Prelude.{◌≡◌, ℕ, ◌<◌, Bool, List}
+use Rattle.std.specs.Prelude.{Option, Result, ◌≡◌, ℕ, ◌<◌, Bool, List}
 use Rattle.records.specs.declared.Record.{Record}
 use Rattle.records.specs.Record.{words}
 use Rattle.tally.specs.declared.Tally.{Tally}
-use Rattle.tally.specs.declared.Tallied.{Tallied}
+use Rattle.refusals.specs.declared.Refusal.{Refusal}
 use Rattle.tally.specs.declared.Reached.{Reached}
 use Rattle.tally.specs.declared.Found.{Found}
 use Rattle.tally.specs.declared.Spot.{Spot}
-use Rattle.tally.specs.declared.Sought.{Sought}
+use Rattle.tally.specs.declared.Placed.{Placed}
 use Rattle.tally.specs.Kinds.{kind_at}
 use Rattle.tally.specs.Tally as tally
 use Rattle.tally.specs.Walk as walk
@@ -21,7 +21,7 @@ abbrev pub TallyStart : (r : Tally) → Type 0
 TallyStart r = r ≡ tally.start
 
 -- `Tally::section`
-abbrev pub TallySection : (t : Tally) (bytes : List ℕ) (r : Tallied) → Type 0
+abbrev pub TallySection : (t : Tally) (bytes : List ℕ) (r : Result Tally Refusal) → Type 0
 TallySection t bytes r = r ≡ tally.section_of t bytes
 
 -- `kind_at`; it is one of the nineteen places of a tally
@@ -57,5 +57,5 @@ abbrev pub SpotPassed : (s : Spot) (bytes : List ℕ) (r : Spot) → Type 0
 SpotPassed s bytes r = r ≡ passed_of s (words bytes)
 
 -- `Spot::find`
-abbrev pub SpotFind : (s : Spot) (n : ℕ) (bytes : List ℕ) (r : Sought) → Type 0
+abbrev pub SpotFind : (s : Spot) (n : ℕ) (bytes : List ℕ) (r : Option Placed) → Type 0
 SpotFind s n bytes r = r ≡ find_of n s (words bytes)

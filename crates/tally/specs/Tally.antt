@@ -1,11 +1,13 @@
 -- The tally and a section of it, for every tally and every input.
 -- Assumes nothing.
-use Rattle.std.specs.Prelude.{◌≡◌, ℕ, ◌+◌, ◌%◌, ◌≤◌, Bool, true, false, cond, List, [], ◌∷◌, length, replicate, ◌==◌, nat_lt, slice_index, slice_set}
+use Rattle.std.specs.Prelude.{Result, Ok, Err, ◌≡◌, ℕ, ◌+◌, ◌%◌, ◌≤◌, Bool, true, false, cond, List, [], ◌∷◌, length, replicate, ◌==◌, nat_lt, slice_index, slice_set}
 use Rattle.records.specs.declared.Record.{Record}
 use Rattle.records.specs.Record.{records}
 use Rattle.records.specs.Command.{asleep_after}
 use Rattle.tally.specs.declared.Tally.{Tally}
-use Rattle.tally.specs.declared.Tallied.{Tallied}
+use Rattle.refusals.specs.declared.Refusal.{Refusal}
+use Rattle.refusals.specs.declared.Refusal.TheVariants.{CutShort, State}
+use Rattle.refusals.specs.Refusals.{number_in}
 use Rattle.tally.specs.Kinds.{kind_at}
 
 -- "CKE is high before the first record", and the part awake; nothing is counted yet
@@ -37,17 +39,19 @@ abbrev pub in_range : List ℕ → Bool
 in_range [] = true
 in_range (n ∷ ns) = cond (nat_lt largest n) false (in_range ns)
 
--- "A refusal returns its number alone and the state unaltered"
-abbrev pub refuse : ℕ → Tally → Tallied
-refuse n t = record { refused = n; tally = t }
-
-abbrev pub take : Tally → Tallied
-take t = record { refused = 0; tally = t }
-
 -- | 17 | .. only those needed so that no sum wraps |, then | 5 | section length not a multiple of 6 |
-unfoldable pub section_of : Tally → (bytes : List ℕ) → Tallied
+unfoldable pub section_of : Tally → (bytes : List ℕ) → Result Tally Refusal
 section_of t bs =
-    cond (in_range t.counts) (cond (length bs % 6 == 0) (take (fold_of t (records bs))) (refuse 5 t)) (refuse 17 t)
+    cond (in_range t.counts) (cond (length bs % 6 == 0) (Ok (fold_of t (records bs))) (Err CutShort)) (Err State)
+
+-- "A refusal returns its number alone": 0 where there is none
+abbrev pub refused_of : Result Tally Refusal → ℕ
+refused_of r = number_in r
+
+-- "and the state unaltered": the tally behind a section that is offered to t
+abbrev pub behind : (t : Tally) → Result Tally Refusal → Tally
+behind t (Ok n) = n
+behind t (Err e) = t
 
 -- what the records of a section need
 pub record Ready (t : Tally) (bytes : List ℕ) : Type 0 where

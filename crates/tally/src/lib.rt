@@ -6,7 +6,7 @@ mod places;
 mod refused;
 mod walk;
 
-ghost use Rattle.std.specs.Prelude.{◌≡◌, ◌+◌, ◌<◌, ◌≤◌, length, if◌then◌else◌};
+ghost use Rattle.std.specs.Prelude.{◌≡◌, ◌+◌, ◌<◌, ◌≤◌, ◌↔◌, length, if◌then◌else◌, IsTrue, EachIndex, slice_index};
 ghost use Rattle.records.specs.Record.{records, record_at};
 ghost use Rattle.records.specs.Command.{asleep_after};
 ghost use Rattle.tally.specs.Kinds.{kind_of};
@@ -14,6 +14,7 @@ ghost use Rattle.tally.specs.Tally as defs;
 ghost use Rattle.tally.specs.Promises.{TallyStart, TallySection, KindAt};
 
 use records::{Command, Record};
+use refusals::Refusal;
 pub use refused::refused_at;
 
 // A count above this is refused: from there a sum could wrap.
@@ -25,13 +26,6 @@ pub struct Tally {
     pub level: bool,
     pub sleeps: bool,
     pub counts: [u64; 19],
-}
-
-// refused is 0 or the number of the check that failed; then the tally is the one handed in.
-#[derive(Clone, Copy)]
-pub struct Tallied {
-    pub refused: u64,
-    pub tally: Tally,
 }
 
 // How far a walk over the records has come: the number and the edge of the last, the CKE level after it, whether the part sleeps, and how many
@@ -72,13 +66,6 @@ pub struct Placed {
     pub word: u64,
 }
 
-// What a search for a record comes to, in one section.
-#[derive(Clone, Copy)]
-pub enum Sought {
-    Here(Placed),
-    Elsewhere,
-}
-
 impl Tally {
     // No record yet: CKE is high, and the part awake.
     pub fn start() -> Tally
@@ -93,45 +80,24 @@ impl Tally {
     }
 
     // Checks 17, 5; then the section's records are counted.
-    pub fn section(self, bytes: &[u8]) -> Tallied
+    pub fn section(self, bytes: &[u8]) -> Result<Tally, Refusal>
         ensures { TallySection self bytes.now result }
     {
-        let counts = self.counts;
-        if !in_range(counts) {
-            return refuse(17, self);
+        if !in_range(self.counts) {
+            return Err(Refusal::State);
         }
         if bytes.len() % 6 != 0 {
-            return refuse(5, self);
+            return Err(Refusal::CutShort);
         }
-        let n = fold(self, bytes);
-        Tallied {
-            refused: 0,
-            tally: n,
-        }
-    }
-}
-
-fn refuse(n: u64, t: Tally) -> Tallied
-    ensures { result ≡ defs.refuse n t }
-{
-    Tallied {
-        refused: n,
-        tally: t,
+        Ok(fold(self, bytes))
     }
 }
 
 // Is no count above the largest?
 fn in_range(counts: [u64; 19]) -> bool
-    ensures { result ≡ defs.in_range counts }
+    ensures { IsTrue result ↔ EachIndex counts (λ k. slice_index counts k ≤ defs.largest) }
 {
-    let mut i: usize = 0;
-    while i < 19 {
-        if LARGEST < counts[i] {
-            return false;
-        }
-        i += 1;
-    }
-    true
+    counts.iter().all(|&n| n <= LARGEST)
 }
 
 fn fold(t: Tally, bytes: &[u8]) -> Tally
@@ -139,30 +105,14 @@ fn fold(t: Tally, bytes: &[u8]) -> Tally
     ensures { result ≡ defs.fold_of t (records bytes.now) }
 {
     let mut n = t;
-    let mut at: usize = 0;
-    while at < bytes.len() {
-        let r = record_at(bytes, at);
+    for &six in records::sixes(bytes) {
+        let r = records::decode(six);
         let k = kind_at(n.level, n.sleeps, r);
-        at += 6;
         n.sleeps = sleeps_after(n.level, n.sleeps, r);
         n.level = r.cke;
-        n.counts[k] = n.counts[k] + 1;
+        n.counts[k] += 1;
     }
     n
-}
-
-fn record_at(bytes: &[u8], at: usize) -> Record
-    requires { at + 6 ≤ length bytes.now }
-    ensures { result ≡ record_at bytes.now at }
-{
-    records::decode(
-        bytes[at],
-        bytes[at + 1],
-        bytes[at + 2],
-        bytes[at + 3],
-        bytes[at + 4],
-        bytes[at + 5],
-    )
 }
 
 // Does the part sleep after a record? CKE fell with the pins of a REF, and has not risen.

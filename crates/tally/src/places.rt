@@ -1,12 +1,11 @@
 // Where a lot's records stand in its files, and which of them has a number. The files are handed over in order, each in sections that end between
 // records.
-ghost use Rattle.std.specs.Prelude.{◌≡◌, ◌+◌, ◌≤◌, length, ◌==◌};
-ghost use Rattle.records.specs.Record.{word_at};
+ghost use Rattle.std.specs.Prelude.{◌≡◌, ◌+◌, ◌==◌};
 ghost use Rattle.tally.specs.Walk.{wrapped};
 ghost use Rattle.tally.specs.Places as defs;
 ghost use Rattle.tally.specs.Promises.{SpotStart, SpotBegun, SpotPassed, SpotFind};
 
-use crate::{Placed, Reached, Sought, Spot, record_at};
+use crate::{Placed, Reached, Spot};
 use records::Record;
 
 impl Spot {
@@ -38,30 +37,25 @@ impl Spot {
         ensures { SpotPassed self bytes.now result }
     {
         let mut s = self;
-        let mut at: usize = 0;
-        while 6 <= bytes.len() - at {
-            let r = record_at(bytes, at);
-            at += 6;
-            s = s.after(r);
+        for &six in records::sixes(bytes) {
+            s = s.after(records::decode(six));
         }
         s
     }
 
     // The section's record of number n.
-    pub fn find(self, n: u64, bytes: &[u8]) -> Sought
+    pub fn find(self, n: u64, bytes: &[u8]) -> Option<Placed>
         ensures { SpotFind self n bytes.now result }
     {
         let mut s = self;
-        let mut at: usize = 0;
-        while 6 <= bytes.len() - at {
-            let r = record_at(bytes, at);
+        for &six in records::sixes(bytes) {
+            let r = records::decode(six);
             if comes_next(s.reached.number, n) {
-                return Sought::Here(s.placed(r, word_at(bytes, at)));
+                return Some(s.placed(r, bits::word(six)));
             }
-            at += 6;
             s = s.after(r);
         }
-        Sought::Elsewhere
+        None
     }
 
     fn after(self, r: Record) -> Spot
@@ -102,18 +96,4 @@ fn comes_next(number: u64, n: u64) -> bool
     ensures { result ≡ (wrapped (number + 1) == n) }
 {
     std::num::wrapping_add_u64(number, 1) == n
-}
-
-fn word_at(bytes: &[u8], at: usize) -> u64
-    requires { at + 6 ≤ length bytes.now }
-    ensures { result ≡ word_at bytes.now at }
-{
-    bits::word(
-        bytes[at],
-        bytes[at + 1],
-        bytes[at + 2],
-        bytes[at + 3],
-        bytes[at + 4],
-        bytes[at + 5],
-    )
 }

@@ -5,8 +5,6 @@ ghost use Rattle.running.specs.Ranges.{limit};
 ghost use Rattle.tally.specs.Refused.{before_zero};
 ghost use Rattle.tally.specs.Promises.{RefusedAt};
 
-use crate::record_at;
-
 // The records of a recording, at most.
 const LIMIT: u64 = 1048576;
 
@@ -39,13 +37,11 @@ fn past_limit(count: u32) -> usize
 fn step_of_zero(bytes: &[u8]) -> usize
     ensures { result ≡ 6 * before_zero (records bytes.now) }
 {
-    let mut at: usize = 0;
-    while 6 <= bytes.len() - at {
-        let r = record_at(bytes, at);
-        if r.step == 0 {
-            return at;
+    let records = records::sixes(bytes);
+    for (i, &six) in records.iter().enumerate() {
+        if records::decode(six).step == 0 {
+            return 6 * i;
         }
-        at += 6;
     }
-    at
+    6 * records.len()
 }

@@ -21,8 +21,8 @@ use Rattle.wide.specs.Editions.{size, view, spare_in, refusal}
 use Rattle.wide.proofs.Editions.{view-count}
 use Rattle.edges.specs.declared.Rank.{Rank}
 use Rattle.judge.specs.declared.State.{State}
-use Rattle.header.specs.declared.Parsed.{Parsed}
-use Rattle.header.specs.declared.Parsed.TheVariants.{Taken as TakenHeader, Refused}
+use Rattle.header.specs.Bytes.{Parsed}
+use Rattle.std.specs.Prelude.{Ok, Err}
 use Rattle.header.specs.Bytes.{edition_for, parsed_of}
 use Rattle.edges.specs.Ends.{fresh_rank}
 use Rattle.judge.specs.Calls.{opened_by, open_of, refuse, folded, taken_by, section_of}
@@ -31,7 +31,7 @@ use Rattle.judge.specs.Ranges.{in_range}
 use Rattle.running.specs.Said.{is_clean}
 use Rattle.edges.specs.Says.{says_of}
 use Rattle.edges.specs.Step.{moved_of, stopped_of, step_of, fold_of}
-use Rattle.program.specs.declared.Run.{Run}
+use Rattle.program.specs.Runs.{RunAnswer as Run}
 use Rattle.program.specs.Program.{opened_run, ran_over}
 use Rattle.program.proofs.Blocks.{after, goes, had-more, was-full}
 use Rattle.verdict.specs.Reading.{Opened, Took}
@@ -122,8 +122,8 @@ filled (suc n) r bs h =
 -- opening counts no record
 by-header : (e : ℕ) (p : Parsed) → (opened_by e p).state.one.count ≡ 0
 unfolding fresh_rank
-by-header e (TakenHeader h) = refl
-by-header e (Refused n) = refl
+by-header e (Ok h) = refl
+by-header e (Err n) = refl
 
 pub none_yet : (bs : List ℕ) → (open_of bs).state.one.count ≡ 0
 unfolding open_of

@@ -3,17 +3,17 @@
 use Prim.Native.Nat.{ℕ, ◌+◌, ◌*◌, ◌≤◌, ◌<◌}
 use native.Mathlib.Decide.{ℕ_discrete}
 use native.Mathlib.Omega.{arith}
-use mathlib.Core.Bool.{Bool, true, false, ◌&&◌, and-eq-true_iff}
+use mathlib.Core.Bool.{Bool, true, false, ◌&&◌}
 use mathlib.Core.List.{List, [], ◌++◌}
 use mathlib.Core.Path.{◌≡◌, refl, sym, ap, ◌∙◌}
-use borrow.Author.Tests.{leb-true, leb-false, ne_eqb}
+use borrow.Author.Tests.{leb-false, lt-leb, ne_eqb}
 use lib.Dec.{leb}
 use lib.ListN.{length, take, drop, length-append}
 use lib.Seq.{take_all, take_at, drop_at}
 use Rattle.header.specs.Bytes.{header_refusal, parsed_of}
 use Rattle.judge.specs.Calls.{open_of}
 use Rattle.lines.specs.Line.{Printed}
-use Rattle.program.specs.declared.Run.{Run}
+use Rattle.program.specs.Runs.{RunAnswer as Run}
 use Rattle.program.specs.Answer.{answer_line, second_line}
 use Rattle.program.specs.Program.{opened_run, ran_over, program_line, program_second}
 use Rattle.program.proofs.Blocks.{stopped, still, in-turn, enough}
@@ -33,6 +33,11 @@ pub record Reads (start run : Run) (read : ℕ) : Type 0 where
 pub reads-start : (start : Run) → Reads start start 0
 reads-start start = record { blocks = 0; bytes = []; count = omega arith; same = sym (still start []); full = λ h. omega arith }
 
+-- past the limit
+pub past-limit : (more : Bool) (read : ℕ) → 1048577 ≤ read → (more && leb read 1048576) ≡ false
+past-limit true read far = lt-leb read 1048576 far
+past-limit false read far = refl
+
 -- a run that has taken all its sections has no more
 ended : (n : ℕ) (r : Run) (bs : List ℕ) → length bs < n * 6000 → (ran_over n r bs).more ≡ false
 ended n r bs l = go (ran_over n r bs).more refl
@@ -42,9 +47,6 @@ ended n r bs l = go (ran_over n r bs).more refl
     go false h = refl
 
 module _ (start run : Run) (read : ℕ) (w : Reads start run read) where
-  pub reads-test : (run.more && leb read 1048576) ≡ true → (run.more ≡ true) × (read ≤ 1048576)
-  reads-test e = let both = (and-eq-true_iff run.more (leb read 1048576)).0 e in (both.0, leb-true read 1048576 both.1)
-
   pub reads-turn : run.more ≡ true → (n : Run) → Took run n → Reads start n (read + 7500)
   reads-turn more n (bs, most, is) =
       let behind : length w.bytes ≡ w.blocks * 10 * 6000 = omega (arith, w.full more) in

@@ -3,6 +3,7 @@
 #![tactic(auto)]
 
 ghost use Rattle.std.specs.Prelude.{◌≡◌, length};
+ghost use Rattle.program.specs.Runs.{run_as};
 ghost use Rattle.verdict.specs.Reading.{Opened, Took, Ran, Judged, Told, ToldSecond};
 
 use judge::State;
@@ -14,8 +15,8 @@ const STDIN_FILENO: i32 = 0;
 
 const STDOUT_FILENO: i32 = 1;
 
-// A block's records, at least: of edition 2.
-const RECORDS: u64 = 7500;
+// A block has 7,500 records at least, those of edition 2: behind so many blocks the limit is passed.
+const BLOCKS: u64 = State::LIMIT / 7500 + 1;
 
 fn main() {
     answer(judged());
@@ -23,14 +24,14 @@ fn main() {
 
 // The run over all of the input.
 fn judged() -> Run
-    ensures { Judged result }
+    ensures { Judged (run_as result) }
 {
     ran(opened())
 }
 
 // Opening, of the bytes that are there.
 fn opened() -> Run
-    ensures { Opened result }
+    ensures { Opened (run_as result) }
 {
     let mut header = [0u8; 6];
     let n = io::read_full(STDIN_FILENO, &mut header);
@@ -40,14 +41,15 @@ fn opened() -> Run
 // Block after block, up to a refusal or the end of the input. Past the limit there was a refusal, so the loop ends.
 fn ran(start: Run) -> Run
     requires { start.state.one.count ≡ 0 }
-    ensures { Ran start result }
+    ensures { Ran (run_as start) (run_as result) }
 {
     let mut run = start;
-    let mut read: u64 = 0;
     let mut space = room();
-    while run.more & (read <= State::LIMIT) {
+    for turn in 0..BLOCKS {
+        if !run.more {
+            return run;
+        }
         run = taken(run, &mut space);
-        read += RECORDS;
     }
     run
 }
@@ -62,7 +64,7 @@ fn room() -> [u8; BLOCK]
 // A block, of the bytes that are there.
 fn taken(run: Run, space: &mut [u8]) -> Run
     requires { length space.old ≡ 60000 }
-    ensures { Took run result }
+    ensures { Took (run_as run) (run_as result) }
 {
     let n = io::read_full(STDIN_FILENO, space);
     program::over(run, &space[..n])
@@ -70,7 +72,7 @@ fn taken(run: Run, space: &mut [u8]) -> Run
 
 // The lines of what was judged, the first rank's first.
 fn answer(run: Run)
-    requires { Judged run }
+    requires { Judged (run_as run) }
 {
     let mut text = [0u8; ROOM];
     let n = program::line(run, &mut text);

@@ -5,8 +5,8 @@ use native.Mathlib.Numerals.{add-one}
 use native.Mathlib.Omega.{arith}
 use mathlib.Core.List.{List, [], ◌∷◌, ◌++◌, append-nil, append_assoc}
 use mathlib.Core.Path.{◌≡◌, refl, sym, ap, ◌∙◌}
-use lib.ListN.{length, take, drop, set, get_or, length-append, length-drop, length-set, take-append-drop}
-use lib.Seq.{take-suc, take_at, drop_at, drop-drop, take-set-le, drop-set-lt, length-take-le}
+use lib.ListN.{length, take, drop, get_or, length-append, length-drop, take-append-drop}
+use lib.Seq.{take-suc, take_at, drop_at, drop-drop, length-take-le}
 use Rattle.wide.specs.Spread.{spread}
 use Rattle.wide.specs.Low.{low6, lows}
 use Rattle.wide.proofs.Spreading.{spread-append}
@@ -30,28 +30,23 @@ module _ (o e : List ℕ) (at n : ℕ) (room : at + 6 ≤ length o) (put : e ≡
   put-long = ap length put ∙ omega (arith, length-append (take at o ++ low6 n) (drop (at + 6) o), front_long, length-drop (at + 6) o)
 
 -- and two more behind them
-module _ (o e : List ℕ) (at n u v : ℕ) (room : at + 8 ≤ length o) (put : e ≡ take at o ++ low6 n ++ drop (at + 6) o) where
-  abbrev whole : List ℕ
-  whole = set (set e (at + 6) u) (at + 7) v
+module _ (o e : List ℕ) (at n u v : ℕ) (room : at + 8 ≤ length o) (put : e ≡ take at o ++ (low6 n ++ u ∷ v ∷ []) ++ drop (at + 8) o) where
+  front-long : length (take at o ++ low6 n) ≡ at + 6
+  front-long = omega (arith, length-append (take at o) (low6 n), length-take-le at o (omega arith), low-six n)
 
-  six : at + 6 ≤ length o
-  six = omega arith
+  eight : length (take at o ++ (low6 n ++ u ∷ v ∷ [])) ≡ at + 8
+  eight = omega (arith, length-append (take at o) (low6 n ++ u ∷ v ∷ []), length-append (low6 n) (u ∷ v ∷ []), length-take-le at o (omega arith), low-six n)
 
-  pub whole-front : take (at + 6) whole ≡ take at o ++ low6 n
+  pub whole-front : take (at + 6) e ≡ take at o ++ low6 n
   whole-front =
-      take-set-le (at + 6) (set e (at + 6) u) (at + 7) v (omega arith) ∙ take-set-le (at + 6) e (at + 6) u (omega arith) ∙ ap (take (at + 6)) put
-      ∙ take_at (take at o ++ low6 n) (drop (at + 6) o) (at + 6) (front_long o e at n six put)
+      ap (take (at + 6)) (put ∙ ap (λ xs. xs ++ drop (at + 8) o) (sym (append_assoc (take at o) (low6 n) (u ∷ v ∷ []))) ∙ append_assoc (take at o ++ low6 n) (u ∷ v ∷ []) (drop (at + 8) o))
+      ∙ take_at (take at o ++ low6 n) (u ∷ v ∷ drop (at + 8) o) (at + 6) front-long
 
-  pub whole-behind : drop (at + 8) whole ≡ drop (at + 8) o
-  whole-behind =
-      let further : at + 8 ≡ at + 6 + 2 = omega arith in
-      drop-set-lt (at + 8) (set e (at + 6) u) (at + 7) v (omega arith) ∙ drop-set-lt (at + 8) e (at + 6) u (omega arith)
-      ∙ ap (λ (k : ℕ). drop k e) further ∙ sym (drop-drop 2 (at + 6) e)
-      ∙ ap (drop 2) (ap (drop (at + 6)) put ∙ drop_at (take at o ++ low6 n) (drop (at + 6) o) (at + 6) (front_long o e at n six put))
-      ∙ drop-drop 2 (at + 6) o ∙ ap (λ (k : ℕ). drop k o) (sym further)
+  pub whole-behind : drop (at + 8) e ≡ drop (at + 8) o
+  whole-behind = ap (drop (at + 8)) put ∙ drop_at (take at o ++ (low6 n ++ u ∷ v ∷ [])) (drop (at + 8) o) (at + 8) eight
 
-  pub whole_long : length whole ≡ length o
-  whole_long = length-set (set e (at + 6) u) (at + 7) v ∙ length-set e (at + 6) u ∙ put-long o e at n six put
+  pub whole_long : length e ≡ length o
+  whole_long = ap length put ∙ omega (arith, length-append (take at o ++ (low6 n ++ u ∷ v ∷ [])) (drop (at + 8) o), eight, length-drop (at + 8) o)
 
 -- i words were put, from a place on
 pub record Laying (ws before : List ℕ) (at : ℕ) (out : List ℕ) (i : ℕ) : Type 0 where

@@ -14,3 +14,4 @@ pub mod Stepping
 pub mod Splitting
 pub mod Editions
 pub mod Answers
+pub mod Placing

@@ -2,11 +2,11 @@
 -- Assumes nothing.
 use Prim.Native.Nat.{ℕ, ◌+◌, ◌*◌, ◌/◌, ◌%◌, ◌≤◌, ◌<◌}
 use native.Mathlib.Omega.{arith}
-use mathlib.Core.Bool.{Bool, false, not, ◌||◌, or_assoc, or-false}
+use mathlib.Core.Bool.{Bool, false, not, ◌||◌, or_assoc}
 use mathlib.Core.List.{List, [], ◌∷◌, map}
 use mathlib.Core.Path.{◌≡◌, sym, ap, ◌∙◌}
 use lib.Dec.{eqb}
-use lib.ListN.{length, take, drop, length-take, length-drop}
+use lib.ListN.{length, take, length-take}
 use lib.Seq.{take_all}
 use Rattle.records.specs.Pieces.{pieces}
 use Rattle.records.specs.Record.{has_zero, steps_of}
@@ -15,7 +15,7 @@ use Rattle.wide.specs.declared.Wide.{Wide}
 use Rattle.wide.specs.declared.Steps.{Steps}
 use Rattle.wide.specs.Wide.{fields_of, word_at, wide_at, wides, rank_of, has_spare}
 use Rattle.wide.specs.Steps.{steps_seen}
-use Rattle.wide.proofs.Wides.{wide_at_lem, no-wide, rank_step, wide-step-small}
+use Rattle.wide.proofs.Wides.{rank_step, wide-step-small}
 use Rattle.wide.proofs.Seeing.{either}
 
 -- ── A word's step and zero bits ─────────────────────────────────────────────────────────────
@@ -50,45 +50,19 @@ one_more_lem sum zero spare w ws = λ i. record {
     further : sum + (w.step + steps_of (map (rank_of false) ws)) ≡ sum + w.step + steps_of (map (rank_of false) ws)
     further = omega arith
 
--- where the loop stands
-pub record Stepping (bs : List ℕ) (sum : ℕ) (zero spare : Bool) (at : ℕ) : Type 0 where
-  pub within : at ≤ length bs
-  pub small : sum ≤ at * 2097152
-  pub rest : steps_from sum zero spare (wides (drop at bs)) ≡ steps_seen (wides bs)
+-- a record more, by its word
+pub steps-one : (sum : ℕ) (zero spare : Bool) (p : List ℕ) (ws : List Wide) (w : ℕ) → w ≡ word_at p 0 → w < 18446744073709551616
+    → steps_from sum zero spare (wide_at p 0 ∷ ws)
+    ≡ steps_from (sum + w / 1099511627776) (zero || eqb (w / 1099511627776) 0) (spare || not (eqb (w % 8192) 0)) ws
+steps-one sum zero spare p ws w is fits =
+    one_more_lem sum zero spare (wide_at p 0) ws
+    ∙ (λ i. steps_from (sum + sym step i) (zero || eqb (sym step i) 0) (spare || not (eqb (sym bits i) 0)) ws)
+  where
+    step : w / 1099511627776 ≡ (wide_at p 0).step
+    step = sym (word-step w fits) ∙ ap (λ (v : ℕ). (fields_of v).step) is
 
-module _ (bs : List ℕ) where
-  pub steps-start : Stepping bs 0 false false 0
-  steps-start = record { within = omega arith; small = omega arith; rest = λ i. record { sum = none i; zero = has_zero (map (rank_of false) (wides bs)); spare = has_spare (wides bs) } }
-    where
-      none : 0 + steps_of (map (rank_of false) (wides bs)) ≡ steps_of (map (rank_of false) (wides bs))
-      none = omega arith
-
-  module _ (sum : ℕ) (zero spare : Bool) (at : ℕ) (n : Stepping bs sum zero spare at) where
-    pub steps-turn : at + 8 ≤ length bs → (w : ℕ) → w ≡ word_at bs at → w < 18446744073709551616
-        → Stepping bs (sum + w / 1099511627776) (zero || eqb (w / 1099511627776) 0) (spare || not (eqb (w % 8192) 0)) (at + 8)
-    steps-turn there w is fits = record {
-      within = there;
-      small = omega (arith, n.small);
-      rest =
-          (λ i. steps_from (sum + step i) (zero || eqb (step i) 0) (spare || not (eqb (bits i) 0)) (wides (drop (at + 8) bs)))
-          ∙ sym (one_more_lem sum zero spare (wide_at bs at) (wides (drop (at + 8) bs)))
-          ∙ ap (steps_from sum zero spare) (sym (wide_at_lem bs at there)) ∙ n.rest;
-    }
-      where
-        step : w / 1099511627776 ≡ (wide_at bs at).step
-        step = sym (word-step w fits) ∙ ap (λ (v : ℕ). (fields_of v).step) is
-
-        bits : w % 8192 ≡ (wide_at bs at).zero
-        bits = sym (word-zero w) ∙ ap (λ (v : ℕ). (fields_of v).zero) is
-
-    pub steps-end : length bs < at + 8 → ◌≡◌ {A = Steps} (record { sum = sum; zero = zero; spare = spare }) (steps_seen (wides bs))
-    steps-end few = no_more ∙ ap (steps_from sum zero spare) (sym (no-wide (drop at bs) (omega (arith, length-drop at bs)))) ∙ n.rest
-      where
-        none : sum ≡ sum + 0
-        none = omega arith
-
-        no_more : ◌≡◌ {A = Steps} (record { sum = sum; zero = zero; spare = spare }) (steps_from sum zero spare [])
-        no_more = λ i. record { sum = none i; zero = sym (or-false zero) i; spare = sym (or-false spare) i }
+    bits : w % 8192 ≡ (wide_at p 0).zero
+    bits = sym (word-zero w) ∙ ap (λ (v : ℕ). (fields_of v).zero) is
 
 -- 1,048,576 records at most
 pub at_most : (bs : List ℕ) → length (take 8388608 bs) ≤ 8388608

@@ -1,23 +1,18 @@
 // What stands in the way of a move, of all records of a section.
-ghost use Rattle.std.specs.Prelude.{◌≡◌, ◌+◌, ◌≤◌, length};
-ghost use Rattle.records.specs.Record.{record_at};
+ghost use Rattle.std.specs.Prelude.{◌≡◌};
 ghost use Rattle.wide.specs.Wide as defs;
 ghost use Rattle.wide.specs.Seen.{seen_more};
 ghost use Rattle.wide.specs.Promises.{SeenIn, StepOfZero};
 
-use crate::{Seen, Wide, word_at};
-use records::Record;
+use crate::{Seen, Wide, eights, word};
 
 // What was seen before, and in the whole records of a section of edition 2.
 pub fn seen_in(before: Seen, bytes: &[u8]) -> Seen
     ensures { SeenIn before bytes.now result }
 {
     let mut s = before;
-    let mut at: usize = 0;
-    while 8 <= bytes.len() - at {
-        let w = fields(word_at(bytes, at));
-        at += 8;
-        s = more(s, w);
+    for &eight in eights(bytes) {
+        s = more(s, fields(word(eight)));
     }
     s
 }
@@ -60,27 +55,10 @@ fn returns(w: Wide) -> bool
 pub fn step_of_zero(bytes: &[u8]) -> bool
     ensures { StepOfZero bytes.now result }
 {
-    let mut at: usize = 0;
-    while 6 <= bytes.len() - at {
-        let r = record_at(bytes, at);
-        if r.step == 0 {
+    for &six in records::sixes(bytes) {
+        if records::decode(six).step == 0 {
             return true;
         }
-        at += 6;
     }
     false
-}
-
-fn record_at(bytes: &[u8], at: usize) -> Record
-    requires { at + 6 ≤ length bytes.now }
-    ensures { result ≡ record_at bytes.now at }
-{
-    records::decode(
-        bytes[at],
-        bytes[at + 1],
-        bytes[at + 2],
-        bytes[at + 3],
-        bytes[at + 4],
-        bytes[at + 5],
-    )
 }

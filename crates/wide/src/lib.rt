@@ -7,8 +7,9 @@ mod moved;
 mod split;
 mod sums;
 
-ghost use Rattle.std.specs.Prelude.{◌≡◌, ◌+◌, ◌*◌, ◌≤◌, ◌<◌, length};
-ghost use Rattle.wide.specs.Wide.{word64, word_at};
+ghost use Rattle.std.specs.Prelude.{◌≡◌};
+ghost use Rattle.records.specs.Pieces.{pieces};
+ghost use Rattle.wide.specs.Wide.{word_at};
 
 pub use checks::{seen_in, step_of_zero};
 pub use moved::{narrow_part, narrow_records, widen_records};
@@ -54,33 +55,15 @@ pub struct Steps {
     pub spare: bool,
 }
 
-// The eight bytes from a place on as one word.
-pub(crate) fn word_at(bytes: &[u8], at: usize) -> u64
-    requires { at + 8 ≤ length bytes.now }
-    ensures { result ≡ word_at bytes.now at }
+// A section's records, eight bytes each. Bytes behind the last whole one belong to none.
+pub(crate) fn eights(bytes: &[u8]) -> &[[u8; 8]]
+    ensures { result.now ≡ pieces 8 bytes.now }
 {
-    word(
-        bytes[at],
-        bytes[at + 1],
-        bytes[at + 2],
-        bytes[at + 3],
-        bytes[at + 4],
-        bytes[at + 5],
-        bytes[at + 6],
-        bytes[at + 7],
-    )
+    bytes.as_chunks::<8>().0
 }
 
-// In two halves: of a sum of all eight a compiler no longer tells that no two share a bit.
-fn word(b0: u8, b1: u8, b2: u8, b3: u8, b4: u8, b5: u8, b6: u8, b7: u8) -> u64
-    ensures { result ≡ word64 b0 b1 b2 b3 b4 b5 b6 b7 }
+pub(crate) fn word(eight: [u8; 8]) -> u64
+    ensures { result ≡ word_at eight 0 }
 {
-    half(b0, b1, b2, b3) * 4294967296 + half(b4, b5, b6, b7)
-}
-
-fn half(b0: u8, b1: u8, b2: u8, b3: u8) -> u64
-    ensures value { result ≡ b0 * 16777216 + b1 * 65536 + b2 * 256 + b3 }
-    ensures upper_bound { result < 4294967296 }
-{
-    b0 as u64 * 16777216 + b1 as u64 * 65536 + b2 as u64 * 256 + b3 as u64
+    u64::from_be_bytes(eight)
 }

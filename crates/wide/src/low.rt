@@ -1,10 +1,8 @@
 // Records narrowed many at a time, in words whose first byte is the least significant one: such a word is one load and one store, and of a
 // loop over words alone the compiler makes vectors.
 ghost use Rattle.std.specs.Prelude.{◌≡◌, false, true, cond, ◌++◌, ◌+◌, ◌*◌, ◌≤◌, ◌<◌, length, take, drop};
-ghost use Rattle.wide.specs.Wide.{word64, word_at};
+ghost use Rattle.wide.specs.Wide.{word_at};
 ghost use Rattle.wide.specs.Low as low;
-
-use crate::word;
 
 // So many words at a time.
 pub(crate) const ROW: usize = 125;
@@ -23,13 +21,11 @@ pub(crate) fn look(
     ensures { low.Looked (drop at bytes.now) n one.new two.new result }
 {
     let mut spare: u64 = 0;
-    let mut i: usize = 0;
-    while i < n {
+    for i in 0..n {
         let x = low_word(bytes, at + 8 * i);
         one[i] = first_seen(x);
         two[i] = second_seen(x);
         spare = spare + spare_bits(x);
-        i += 1;
     }
     spare
 }
@@ -44,10 +40,8 @@ pub(crate) fn lay(words: &[u64; ROW], n: usize, out: &mut [u8], at: usize)
         return;
     }
     let last = n - 1;
-    let mut i: usize = 0;
-    while i < last {
+    for i in 0..last {
         put_whole(out, at + 6 * i, words[i]);
-        i += 1;
     }
     put(out, at + 6 * last, words[last]);
 }
@@ -76,12 +70,8 @@ fn put(out: &mut [u8], at: usize, n: u64)
     requires { at + 6 ≤ length out.old }
     ensures { out.new ≡ take at out.old ++ low.low6 n ++ drop (at + 6) out.old }
 {
-    out[at] = (n % 256) as u8;
-    out[at + 1] = (n / 256 % 256) as u8;
-    out[at + 2] = (n / 65536 % 256) as u8;
-    out[at + 3] = (n / 16777216 % 256) as u8;
-    out[at + 4] = (n / 4294967296 % 256) as u8;
-    out[at + 5] = (n / 1099511627776 % 256) as u8;
+    let [b0, b1, b2, b3, b4, b5, ..] = n.to_le_bytes();
+    out[at..at + 6].copy_from_slice(&[b0, b1, b2, b3, b4, b5]);
 }
 
 // Two bytes more than a record has.
@@ -91,16 +81,14 @@ fn put_whole(out: &mut [u8], at: usize, n: u64)
     ensures out_unchanged { drop (at + 8) out.new ≡ drop (at + 8) out.old }
     ensures out_len_unchanged { length out.new ≡ length out.old }
 {
-    put(out, at, n);
-    out[at + 6] = (n / 281474976710656 % 256) as u8;
-    out[at + 7] = (n / 72057594037927936 % 256) as u8;
+    out[at..at + 8].copy_from_slice(&n.to_le_bytes());
 }
 
 fn low_word(bytes: &[u8], at: usize) -> u64
     requires { at + 8 ≤ length bytes.now }
     ensures { low.Turned result (word_at bytes.now at) }
 {
-    turned(
+    u64::from_le_bytes([
         bytes[at],
         bytes[at + 1],
         bytes[at + 2],
@@ -109,13 +97,7 @@ fn low_word(bytes: &[u8], at: usize) -> u64
         bytes[at + 5],
         bytes[at + 6],
         bytes[at + 7],
-    )
-}
-
-fn turned(b0: u8, b1: u8, b2: u8, b3: u8, b4: u8, b5: u8, b6: u8, b7: u8) -> u64
-    ensures { low.Turned result (word64 b0 b1 b2 b3 b4 b5 b6 b7) }
-{
-    word(b7, b6, b5, b4, b3, b2, b1, b0)
+    ])
 }
 
 fn first_seen(x: u64) -> u64

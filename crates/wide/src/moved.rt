@@ -24,13 +24,13 @@ pub fn narrow_part(bytes: &[u8], at: usize, second: bool, out: &mut [u8; 6000]) 
 pub fn narrow_records(bytes: &[u8], second: bool, out: &mut [u8]) -> Part
     ensures { NarrowRecords bytes.now second out.old result out.new }
 {
-    let count = fewer(bytes.len() / 8, out.len() / 6);
+    let count = (bytes.len() / 8).min(out.len() / 6);
     let mut one = [0u64; ROW];
     let mut two = [0u64; ROW];
     let mut spare = false;
     let mut i: usize = 0;
     while i < count {
-        let n = fewer(count - i, ROW);
+        let n = (count - i).min(ROW);
         let seen = look(bytes, 8 * i, n, &mut one, &mut two);
         lay_either(&one, &two, second, n, out, 6 * i);
         spare = spare | (seen != 0);
@@ -38,7 +38,7 @@ pub fn narrow_records(bytes: &[u8], second: bool, out: &mut [u8]) -> Part
     }
     Part {
         len: 6 * count,
-        spare: spare,
+        spare,
     }
 }
 
@@ -46,12 +46,10 @@ pub fn narrow_records(bytes: &[u8], second: bool, out: &mut [u8]) -> Part
 pub fn widen_records(bytes: &[u8], out: &mut [u8]) -> usize
     ensures { WidenRecords bytes.now out.old result out.new }
 {
-    let count = fewer(bytes.len() / 6, out.len() / 8);
-    let mut i: usize = 0;
-    while i < count {
+    let count = (bytes.len() / 6).min(out.len() / 8);
+    for i in 0..count {
         let w = narrow_word(bytes, 6 * i);
         put8(out, 8 * i, widened(w));
-        i += 1;
     }
     8 * count
 }
@@ -61,14 +59,14 @@ fn narrow_word(bytes: &[u8], at: usize) -> u64
     requires { at + 6 ≤ length bytes.now }
     ensures { old.fields_of result ≡ old.record_at bytes.now at }
 {
-    bits::word(
+    bits::word([
         bytes[at],
         bytes[at + 1],
         bytes[at + 2],
         bytes[at + 3],
         bytes[at + 4],
         bytes[at + 5],
-    )
+    ])
 }
 
 // The word of edition 2: RESET and the second CS are 1, ODT and the last 13 bits 0.
@@ -87,21 +85,5 @@ fn put8(out: &mut [u8], at: usize, n: u64)
     requires { at + 8 ≤ length out.old }
     ensures { out.new ≡ take at out.old ++ bytes8 n ++ drop (at + 8) out.old }
 {
-    out[at] = (n / 72057594037927936 % 256) as u8;
-    out[at + 1] = (n / 281474976710656 % 256) as u8;
-    out[at + 2] = (n / 1099511627776 % 256) as u8;
-    out[at + 3] = (n / 4294967296 % 256) as u8;
-    out[at + 4] = (n / 16777216 % 256) as u8;
-    out[at + 5] = (n / 65536 % 256) as u8;
-    out[at + 6] = (n / 256 % 256) as u8;
-    out[at + 7] = (n % 256) as u8;
-}
-
-pub(crate) fn fewer(a: usize, b: usize) -> usize
-    ensures { result ≡ min a b }
-{
-    if a < b {
-        return a;
-    }
-    b
+    out[at..at + 8].copy_from_slice(&n.to_be_bytes());
 }

@@ -4,7 +4,7 @@ ghost use Rattle.wide.specs.Wide.{wides};
 ghost use Rattle.wide.specs.Steps.{steps_seen};
 ghost use Rattle.wide.specs.Promises.{StepsIn};
 
-use crate::{Steps, word_at};
+use crate::{Steps, eights, word};
 
 // The bytes of 1,048,576 records.
 const MOST: usize = 8388608;
@@ -26,18 +26,12 @@ fn summed(bytes: &[u8]) -> Steps
     let mut sum: u64 = 0;
     let mut zero = false;
     let mut spare = false;
-    let mut at: usize = 0;
-    while 8 <= bytes.len() - at {
-        let w = word_at(bytes, at);
+    for &eight in eights(bytes) {
+        let w = word(eight);
         let step = w / 1099511627776;
-        sum = sum + step;
+        sum += step;
         zero = zero | (step == 0);
         spare = spare | (w % 8192 != 0);
-        at += 8;
     }
-    Steps {
-        sum: sum,
-        zero: zero,
-        spare: spare,
-    }
+    Steps { sum, zero, spare }
 }

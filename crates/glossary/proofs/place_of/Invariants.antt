@@ -1,12 +1,9 @@
 -- The rows before are of other kinds.
 -- Assumes nothing.
-use Prim.Native.Nat.{◌-◌, ◌≤◌}
+use Prim.Native.Nat.{◌-◌}
 use mathlib.Core.Path.{◌≡◌}
 use Rattle.glossary.specs.Glossary.{place_from, place_of}
 use Rattle.glossary.proofs.place_of.Given as goal
 
 abbrev pub invariant-loop-i : goal.invariant-loop-i
-invariant-loop-i l = (l.i ≤ 27) × (place_from (27 - l.i) l.i l.kind ≡ place_of l.kind)
-
-abbrev pub decreases-loop-i : goal.decreases-loop-i
-decreases-loop-i l = 27 - l.i
+invariant-loop-i l = place_from (27 - l.i) l.i l.kind ≡ place_of l.kind

@@ -1,29 +1,36 @@
 -- The refusals; then the header and the records.
 -- Assumes nothing.
-use Rattle.std.proofs.Common.{sym, ◌∙◌, arith, rules}
+use Rattle.std.proofs.Common.{sym, ap, subst, ◌∙◌, arith, rules}
+use Rattle.refusals.specs.Refusals.{number_in}
+use Rattle.refusals.proofs.Answers.{never_0}
+use Rattle.refusals.proofs.Passed.{passed}
+use Rattle.moves.specs.Promises.{Narrow}
 use Rattle.moves.proofs.Going.{six-or-more}
 use Rattle.moves.proofs.Sections.{narrow-checked}
 use Rattle.moves.proofs.Laying.{length-narrowed, move-refused, no_room, narrow-left}
 use Rattle.moves.proofs.narrow.Goals as goal
 
-pub returns-then-refused-ne0 : goal.returns-then-refused-ne0
-returns-then-refused-ne0 c = move-refused _ _ _ c.refused-refused.result (c.refused-refused.ensures ∙ narrow-checked c.args.recording.now (search rules)) c.if-refused-ne0.true
+pub returns-in_err-checked : goal.returns-in_err-checked
+returns-in_err-checked c =
+    let is = sym (ap number_in c.in_err-checked.was) ∙ c.checked.ensures ∙ narrow-checked c.args.recording.now (search rules) in
+    subst (λ r. Narrow c.args.recording.now c.args.out.now (number_in r) c.args.out.now)
+    (sym (passed c.from_residual.result _ c.from_residual.ensures.1)) (move-refused _ _ _ _ is (never_0 _))
 
 pub overflow_sub-count : goal.overflow_sub-count
-overflow_sub-count c = six-or-more 2 8 _ c.args.recording.now _ (c.refused-refused.ensures ∙ narrow-checked c.args.recording.now (search rules)) c.if-refused-ne0.false
+overflow_sub-count c = six-or-more 2 8 _ c.args.recording.now _ (c.checked.ensures ∙ narrow-checked c.args.recording.now (search rules)) (ap number_in c.in_ok-checked.was)
 
 pub returns-then-out-count : goal.returns-then-out-count
-returns-then-out-count c = no_room _ _ _ c.refused-refused.result (c.refused-refused.ensures ∙ narrow-checked c.args.recording.now (search rules)) c.if-refused-ne0.false _ (length-narrowed _) c.if-out-count.true
+returns-then-out-count c = no_room _ _ _ (number_in c.checked.result) (c.checked.ensures ∙ narrow-checked c.args.recording.now (search rules)) (ap number_in c.in_ok-checked.was) _ (length-narrowed _) c.if-out-count.true
 
 pub put_header-requires : goal.put_header-requires
-put_header-requires c = record { in_bounds = (six-or-more 2 8 _ c.args.recording.now _ (c.refused-refused.ensures ∙ narrow-checked c.args.recording.now (search rules)) c.if-refused-ne0.false, omega (arith, c.if-out-count.false)); edition_bound = omega arith }
+put_header-requires c = record { in_bounds = (six-or-more 2 8 _ c.args.recording.now _ (c.checked.ensures ∙ narrow-checked c.args.recording.now (search rules)) (ap number_in c.in_ok-checked.was), omega (arith, c.if-out-count.false)); edition_bound = omega arith }
 
 pub slice_bounds-narrow_records-count : goal.slice_bounds-narrow_records-count
-slice_bounds-narrow_records-count c = six-or-more 2 8 _ c.args.recording.now _ (c.refused-refused.ensures ∙ narrow-checked c.args.recording.now (search rules)) c.if-refused-ne0.false
+slice_bounds-narrow_records-count c = six-or-more 2 8 _ c.args.recording.now _ (c.checked.ensures ∙ narrow-checked c.args.recording.now (search rules)) (ap number_in c.in_ok-checked.was)
 
 pub slice_bounds-narrow_records-start : goal.slice_bounds-narrow_records-start
-slice_bounds-narrow_records-start c = six-or-more 2 8 _ c.args.recording.now _ (c.refused-refused.ensures ∙ narrow-checked c.args.recording.now (search rules)) c.if-refused-ne0.false
+slice_bounds-narrow_records-start c = six-or-more 2 8 _ c.args.recording.now _ (c.checked.ensures ∙ narrow-checked c.args.recording.now (search rules)) (ap number_in c.in_ok-checked.was)
 
 pub returns : goal.returns
 returns c =
-    narrow-left c.args.recording.now c.args.out.now _ _ _ (sym (c.refused-refused.ensures ∙ narrow-checked c.args.recording.now (search rules)) ∙ c.if-refused-ne0.false) c.if-out-count.false c.put_header.ensures c.narrow_records.ensures
+    narrow-left c.args.recording.now c.args.out.now _ _ _ (sym (c.checked.ensures ∙ narrow-checked c.args.recording.now (search rules)) ∙ (ap number_in c.in_ok-checked.was)) c.if-out-count.false c.put_header.ensures c.narrow_records.ensures

@@ -1,42 +1,26 @@
--- `program::over` meets its contract. The invariant is the block's stage; the measure is what is left of a full block.
+-- The sections that are left give the whole block's run.
 -- Assumes nothing.
-use native.Mathlib.Omega.{arith}
-use borrow.Author.Rules.{rules}
-use Rattle.program.proofs.Blocks.{stage-start, stage-test, stage-turn, stage-end}
+use Rattle.std.proofs.Common.{◌≡◌, ◌+◌, ◌-◌, sym, ap, arith, ℕ}
+use mathlib.Core.Path.{◌∙◌}
+use Rattle.program.specs.Runs.{run_as}
+use Rattle.program.specs.Program.{ran_over}
+use Rattle.program.proofs.Blocks.{stopped, still, turned}
+use Rattle.std.proofs.lemmas.Bool.{not-true, not-false}
 use Rattle.program.proofs.over.Goals as goal
 
-pub loop-run-init : goal.loop-run-init
-loop-run-init c = stage-start _ _
+pub returns-then-not-run : goal.returns-then-not-run
+returns-then-not-run c = let l = c.loop-turn in sym (stopped (10 - l.turn) (run_as l.run) l.rest.now (not-true _ c.if-not-run.true)) ∙ l.invariant
 
-pub overflow_add-at : goal.overflow_add-at
-overflow_add-at c = omega (arith, c.loop-run.invariant.place)
-
-pub slice_bounds-next-count : goal.slice_bounds-next-count
-slice_bounds-next-count c =
-    let st = c.loop-run.invariant in
-    let inside = st.inside (stage-test _ _ _ _ st c.loop-run-test.true).0 in
-    search rules
-
-pub slice_bounds-next-start : goal.slice_bounds-next-start
-slice_bounds-next-start c =
-    let st = c.loop-run.invariant in
-    let inside = st.inside (stage-test _ _ _ _ st c.loop-run-test.true).0 in
-    search rules
-
-pub overflow_add-at-in-loop-run : goal.overflow_add-at-in-loop-run
-overflow_add-at-in-loop-run c = omega (arith, c.loop-run.invariant.place)
-
-pub loop-run-smaller : goal.loop-run-smaller
-loop-run-smaller c =
-    let st = c.loop-run.invariant in
-    let below = (stage-test _ _ _ _ st c.loop-run-test.true).1 in
-    omega arith
-
-pub loop-run-preserved : goal.loop-run-preserved
-loop-run-preserved c =
-    let st = c.loop-run.invariant in
-    let test = stage-test _ _ _ _ st c.loop-run-test.true in
-    stage-turn _ _ _ _ st test _ c.least-to.ensures _ c.next-run.ensures
+pub loop-turn-preserved : goal.loop-turn-preserved
+loop-turn-preserved c =
+    let l = c.loop-turn in
+    let parts = c.split_at.ensures in
+    turned (10 - l.turn) (10 - (l.turn + 1)) (run_as l.run) _ l.rest.now _ _ _ (omega (arith, c.loop-turn-test.true)) (not-false _ c.if-not-run.false)
+    c.min.ensures parts.front parts.back c.next-run.ensures
+    ∙ l.invariant
 
 pub returns : goal.returns
-returns c = stage-end _ _ _ _ c.loop-run.invariant c.loop-run-test.false
+returns c =
+    let l = c.loop-turn in
+    let none : 10 - l.turn ≡ 0 = omega (arith, c.loop-turn-test.false) in
+    sym (still (run_as l.run) l.rest.now) ∙ ap (λ (n : ℕ). ran_over n (run_as l.run) l.rest.now) (sym none) ∙ l.invariant

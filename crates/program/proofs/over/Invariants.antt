@@ -1,11 +1,9 @@
--- `program::over` meets its contract. The invariant is the block's stage; the measure is what is left of a full block.
+-- The sections that are left give the whole block's run.
 -- Assumes nothing.
-use Prim.Native.Nat.{◌-◌}
-use Rattle.program.proofs.Blocks.{Stage}
+use Rattle.std.proofs.Common.{◌≡◌, ◌-◌}
+use Rattle.program.specs.Runs.{run_as}
+use Rattle.program.specs.Program.{ran_over}
 use Rattle.program.proofs.over.Given as goal
 
-abbrev pub invariant-loop-run : goal.invariant-loop-run
-invariant-loop-run l = Stage l.initial.run l.block l.run l.at
-
-abbrev pub decreases-loop-run : goal.decreases-loop-run
-decreases-loop-run l = 60000 - l.at
+abbrev pub invariant-loop-turn : goal.invariant-loop-turn
+invariant-loop-turn l = ran_over (10 - l.turn) (run_as l.run) l.rest ≡ ran_over 10 (run_as l.initial.run) l.block

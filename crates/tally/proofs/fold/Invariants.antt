@@ -1,11 +1,12 @@
--- The invariant: what remains, counted into the tally so far, is the whole section counted into the tally handed in.
+-- What remains, counted into the tally so far, is the whole section counted into the tally handed in; and no count is larger than its records allow.
 -- Assumes nothing.
-use Rattle.std.proofs.Common.{◌-◌, length}
-use Rattle.tally.proofs.Folds.{Folding}
+use Rattle.std.proofs.Common.{ℕ, ◌+◌, ◌≤◌, map, slice_index}
+use Rattle.records.specs.Record.{record_at}
+use Rattle.tally.specs.Tally.{largest, fold_of}
+use Rattle.records.proofs.Turns.{Going}
 use Rattle.tally.proofs.fold.Given as goal
 
-abbrev pub invariant-loop-at : goal.invariant-loop-at
-invariant-loop-at l = Folding l.initial.n l.bytes l.n l.at
-
-abbrev pub decreases-loop-at : goal.decreases-loop-at
-decreases-loop-at l = length l.bytes - l.at
+abbrev pub invariant-loop-six : goal.invariant-loop-six
+invariant-loop-six l =
+    Going (λ t ps. fold_of t (map (λ p. record_at p 0) ps)) l.initial.n l.six-items l.n l.six-index
+    × ((k : ℕ) → slice_index l.n.counts k ≤ largest + l.six-index)

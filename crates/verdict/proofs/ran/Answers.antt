@@ -1,32 +1,24 @@
--- `verdict::ran` is safe, ends, and its run is over all that was read. The measure is what is left of the limit, and a block more.
+-- The run is over all that was read, block after block, up to a refusal, the end, or past the limit.
 -- Assumes nothing.
-use native.Mathlib.Omega.{arith}
-use borrow.Author.Rules.{rules}
-use Rattle.verdict.proofs.Reading.{reads-start, reads-test, reads-turn, reads_end}
+use Rattle.std.proofs.Common.{◌+◌, ◌*◌, ◌≡◌, ◌&&◌, Bool, ap, arith, rules, subst, leb}
+use Rattle.std.proofs.lemmas.Bool.{not-true, not-false}
+use Rattle.verdict.proofs.Reading.{Reads, reads-start, reads-turn, reads_end, past-limit}
+use Rattle.program.specs.Runs.{run_as}
 use Rattle.verdict.proofs.ran.Goals as goal
 
-pub loop-run-init : goal.loop-run-init
-loop-run-init c = (omega (arith, c.room-space.ensures), reads-start _)
+pub loop-turn-init : goal.loop-turn-init
+loop-turn-init c = (omega (arith, c.room-space.ensures), reads-start _)
 
-pub taken-run-requires : goal.taken-run-requires
-taken-run-requires c = c.loop-run.invariant.0
+pub returns-then-not-run : goal.returns-then-not-run
+returns-then-not-run c =
+    let l = c.loop-turn in
+    reads_end _ _ _ l.invariant.1 c.requires (ap (λ (x : Bool). x && leb (l.turn * 7500) 1048576) (not-true _ c.if-not-run.true))
 
-pub overflow_add-read : goal.overflow_add-read
-overflow_add-read c =
-    let w = c.loop-run.invariant.1 in
-    let below = (reads-test _ _ _ w c.loop-run-test.true).1 in
-    omega arith
-
-pub loop-run-smaller : goal.loop-run-smaller
-loop-run-smaller c =
-    let w = c.loop-run.invariant.1 in
-    let below = (reads-test _ _ _ w c.loop-run-test.true).1 in
-    omega arith
-
-pub loop-run-preserved : goal.loop-run-preserved
-loop-run-preserved c =
-    let w = c.loop-run.invariant.1 in
-    (search rules, reads-turn _ _ _ w (reads-test _ _ _ w c.loop-run-test.true).0 _ c.taken-run.ensures)
+pub loop-turn-preserved : goal.loop-turn-preserved
+loop-turn-preserved c =
+    let l = c.loop-turn in
+    let next : l.turn * 7500 + 7500 ≡ (l.turn + 1) * 7500 = omega arith in
+    (search rules, subst (Reads (run_as c.args.start) (run_as c.taken-run.result)) next (reads-turn _ _ _ l.invariant.1 (not-false _ c.if-not-run.false) _ c.taken-run.ensures))
 
 pub returns : goal.returns
-returns c = reads_end _ _ _ c.loop-run.invariant.1 c.requires c.loop-run-test.false
+returns c = let l = c.loop-turn in reads_end _ _ _ l.invariant.1 c.requires (past-limit l.run.more (l.turn * 7500) (omega (arith, c.loop-turn-test.false)))

@@ -1,34 +1,37 @@
 -- Opening, one section and closing answer what the definitions of a whole recording say.
 -- Assumes nothing.
-use Rattle.firmware.proofs.Wholes.{short, open-most, by-open, section-most, by-section, close-most, by-close, by-verdict}
-use mathlib.Core.Path.{refl}
-use native.Mathlib.Omega.{arith}
-use lib.ListN.{length-take}
+use Rattle.std.proofs.Common.{refl, sym, ap, subst, arith, length-take}
+use mathlib.Core.Path.{◌∙◌}
+use Rattle.refusals.proofs.Answers.{never_0}
+use Rattle.refusals.proofs.Passed.{passed}
+use Rattle.judge.specs.Answers.{opened_as, taken_as, closed_as}
+use Rattle.firmware.specs.Whole.{JudgedAs}
+use Rattle.firmware.proofs.Wholes.{short, by-open, by-section, by-close, by-verdict}
 use Rattle.firmware.proofs.whole.judged.Goals as goal
 
-pub returns-then-recording-head : goal.returns-then-recording-head
-returns-then-recording-head c = short _ _ _ _ _ c.if-recording-head.true c.refused.ensures
+pub returns-then-recording-lt6 : goal.returns-then-recording-lt6
+returns-then-recording-lt6 c = λ v w. short _ _ _ v w c.if-recording-lt6.true refl
 
 pub slice_bounds-open-end : goal.slice_bounds-open-end
-slice_bounds-open-end c = omega (arith, length-take 6 c.args.recording.now, c.if-recording-head.false)
+slice_bounds-open-end c = omega (arith, length-take 6 c.args.recording.now, c.if-recording-lt6.false)
 
-pub refused-requires-then-opened-ne0 : goal.refused-requires-then-opened-ne0
-refused-requires-then-opened-ne0 c = open-most c.args.recording.now c.args.end _ c.open-opened.ensures c.if-opened-ne0.true
+pub returns-in_err-state : goal.returns-in_err-state
+returns-in_err-state c =
+    subst (JudgedAs c.args.recording.now c.args.end) (sym (passed c.from_residual.result _ c.from_residual.ensures.1))
+    (λ v w. by-open _ _ _ (ap opened_as (sym c.in_err-state.was) ∙ c.open.ensures) _ v w (never_0 _) refl)
 
-pub returns-then-opened-ne0 : goal.returns-then-opened-ne0
-returns-then-opened-ne0 c = by-open _ _ _ c.open-opened.ensures _ _ _ c.if-opened-ne0.true c.refused-then-opened-ne0.ensures
+pub returns-in_err-taken : goal.returns-in_err-taken
+returns-in_err-taken c =
+    subst (JudgedAs c.args.recording.now c.args.end) (sym (passed c.from_residual-in_err-taken.result _ c.from_residual-in_err-taken.ensures.1))
+    (λ v w. by-section _ _ _ (ap opened_as (sym c.in_ok-state.was) ∙ c.open.ensures) refl _ (ap (taken_as _) (sym c.in_err-taken.was) ∙ c.section.ensures) _ v w (never_0 _) refl)
 
-pub refused-requires-then-taken-ne0 : goal.refused-requires-then-taken-ne0
-refused-requires-then-taken-ne0 c = section-most c.args.recording.now c.args.end _ c.open-opened.ensures c.if-opened-ne0.false _ c.section-taken.ensures c.if-taken-ne0.true
-
-pub returns-then-taken-ne0 : goal.returns-then-taken-ne0
-returns-then-taken-ne0 c = by-section _ _ _ c.open-opened.ensures c.if-opened-ne0.false _ c.section-taken.ensures _ _ _ c.if-taken-ne0.true c.refused-then-taken-ne0.ensures
-
-pub refused-requires-then-closed-ne0 : goal.refused-requires-then-closed-ne0
-refused-requires-then-closed-ne0 c = close-most c.args.recording.now _ _ c.open-opened.ensures c.if-opened-ne0.false _ c.section-taken.ensures c.if-taken-ne0.false _ c.close-closed.ensures
-
-pub returns-then-closed-ne0 : goal.returns-then-closed-ne0
-returns-then-closed-ne0 c = by-close _ _ _ c.open-opened.ensures c.if-opened-ne0.false _ c.section-taken.ensures c.if-taken-ne0.false _ c.close-closed.ensures _ _ _ c.if-closed-ne0.true c.refused-then-closed-ne0.ensures
+pub returns-in_err-closed : goal.returns-in_err-closed
+returns-in_err-closed c =
+    subst (JudgedAs c.args.recording.now c.args.end) (sym (passed c.from_residual-in_err-closed.result _ c.from_residual-in_err-closed.ensures.1))
+    (λ v w. by-close _ _ _ (ap opened_as (sym c.in_ok-state.was) ∙ c.open.ensures) refl _ (ap (taken_as _) (sym c.in_ok-taken.was) ∙ c.section.ensures) refl _
+    (ap closed_as (sym c.in_err-closed.was) ∙ c.close.ensures) _ v w (never_0 _) refl)
 
 pub returns : goal.returns
-returns c = by-verdict _ _ _ c.open-opened.ensures c.if-opened-ne0.false _ c.section-taken.ensures c.if-taken-ne0.false _ c.close-closed.ensures _ _ c.if-closed-ne0.false refl refl
+returns c =
+    by-verdict _ _ _ (ap opened_as (sym c.in_ok-state.was) ∙ c.open.ensures) refl _ (ap (taken_as _) (sym c.in_ok-taken.was) ∙ c.section.ensures) refl _
+    (ap closed_as (sym c.in_ok-closed.was) ∙ c.close.ensures) _ _ refl refl refl

@@ -5,17 +5,17 @@ use mathlib.Core.Path.{◌≡◌, ap}
 use Rattle.header.specs.Bytes.{fields_of, fields_refusal, header_of, edition, zero_a, zero_b, bin, period}
 use Rattle.header.specs.Bins.{bin_of}
 use Rattle.header.specs.declared.Header.{Header}
-use Rattle.header.specs.declared.Parsed.TheVariants.{Taken}
+use Rattle.std.specs.Prelude.{Ok}
 use borrow.Author.Tests.{lt-ltb, le-ltb, eq-eqb, ne_eqb}
 use native.Mathlib.Nat.{div-one}
 use Rattle.header.proofs.opening.fields.Goals as goal
 
 taken :
     (e w least : ℕ) (h : Header) → h ≡ header_of w → edition w ≡ e → zero_a w ≡ 0 → zero_b w ≡ 0
-    → least ≡ (bin_of (bin w)).least → least ≤ period w → period w ≤ 3300 → Taken h ≡ fields_of e w
+    → least ≡ (bin_of (bin w)).least → least ≤ period w → period w ≤ 3300 → Ok h ≡ fields_of e w
 unfolding fields_of fields_refusal
 taken e w least h is one a b l under over =
-    rw (eq-eqb _ _ one, eq-eqb _ _ a, eq-eqb _ _ b, ← l, le-ltb _ _ under, le-ltb _ _ over) (ap Taken is)
+    rw (eq-eqb _ _ one, eq-eqb _ _ a, eq-eqb _ _ b, ← l, le-ltb _ _ under, le-ltb _ _ over) (ap Ok is)
 
 pub returns-then-w-edition : goal.returns-then-w-edition
 unfolding fields_of fields_refusal

@@ -1,13 +1,13 @@
 -- Check 17; then by the edition.
 -- Assumes nothing.
-use mathlib.Core.Path.{sym, ◌∙◌}
+use mathlib.Core.Path.{refl, sym, ◌∙◌}
 use Rattle.judge.specs.Calls.{section_of}
 use Rattle.judge.proofs.Ranging.{tested}
 use Rattle.judge.proofs.State.section.Goals as goal
 
 pub returns-then-not-in_range : goal.returns-then-not-in_range
 unfolding section_of
-returns-then-not-in_range c = c.refuse.ensures ∙ rw (sym c.in_range.ensures ∙ c.if-not-in_range.true)
+returns-then-not-in_range c = rw (sym c.in_range.ensures ∙ c.if-not-in_range.true) refl
 
 pub of_two-requires : goal.of_two-requires
 of_two-requires c = let range = sym c.in_range.ensures ∙ c.if-not-in_range.false in record { s_value = range; edition_value = c.if-self-eq2.true }

@@ -3,4 +3,4 @@
 use Rattle.judge.proofs.calls.taken.Goals as goal
 
 pub returns : goal.returns
-returns c = λ i. record { refused = 0; state = c.args.s; verdict = c.so_far-verdict.ensures i; second = c.second_verdict-second.ensures i }
+returns c = λ i. record { refused = 0; state = c.args.s; verdict = c.so_far.ensures i; second = c.second_verdict.ensures i }

@@ -1,20 +1,21 @@
 -- The steps are those of all records, and both ranks have them.
 -- Assumes nothing.
-use mathlib.Core.Path.{◌∙◌}
-use Rattle.judge.proofs.Counted.{later-fits, counted_is}
+use Rattle.judge.proofs.Counted.{later-fits, counts-zero, counts_is}
 use Rattle.judge.proofs.ranks.counted.Goals as goal
 
-pub later-one-requires : goal.later-one-requires
-later-one-requires c =
+pub returns-then-steps : goal.returns-then-steps
+returns-then-steps c = counts-zero _ c.requires.bytes_len _ c.steps_in-steps.ensures c.args.start c.requires.fit c.if-steps.true
+
+pub later-requires : goal.later-requires
+later-requires c =
     let fits = later-fits _ c.requires.bytes_len _ c.steps_in-steps.ensures _ c.requires.fit in
     record { steps_bound = fits.0; records_bound = fits.1 }
 
-pub later-two-requires : goal.later-two-requires
-later-two-requires c =
+pub later-requires-2 : goal.later-requires-2
+later-requires-2 c =
     let fits = later-fits _ c.requires.bytes_len _ c.steps_in-steps.ensures _ c.requires.fit_2 in
     record { steps_bound = fits.0; records_bound = fits.1 }
 
 pub returns : goal.returns
 returns c =
-    c.pair.ensures
-    ∙ counted_is _ c.requires.bytes_len _ c.steps_in-steps.ensures c.args.start c.requires.fit _ _ c.later-one.ensures c.later-two.ensures
+    counts_is _ c.requires.bytes_len _ c.steps_in-steps.ensures c.args.start c.requires.fit c.if-steps.false _ _ c.later.ensures c.later-2.ensures

@@ -1,8 +1,18 @@
--- The lowest bank first.
+-- A bank more.
 -- Assumes nothing.
-use Rattle.answers.specs.Answer.{lowest, or_else}
+use Rattle.std.proofs.Common.{◌≡◌, ℕ, ◌+◌, refl, ◌∙◌, add-one}
+use Rattle.answers.specs.declared.Break.{Break}
+use Rattle.answers.specs.Answer.{or_else, lowest}
+use Rattle.running.specs.Breaks.{barred_at}
 use Rattle.kept.proofs.breaks.first_barred.Goals as goal
 
-pub returns : goal.returns
-unfolding lowest or_else
-returns c = simp (c.or_else.ensures, c.barred-7.ensures, c.or_else-b6.ensures, c.barred-6.ensures, c.or_else-b5.ensures, c.barred-5.ensures, c.or_else-b4.ensures, c.barred-4.ensures, c.or_else-b3.ensures, c.barred-3.ensures, c.or_else-b2.ensures, c.barred-2.ensures, c.or_else-b1.ensures, c.barred.ensures, c.barred-b0.ensures)
+one_more : (f : ℕ → Break) (i : ℕ) (a b x : Break) → a ≡ lowest f i → b ≡ f i → x ≡ or_else a b → x ≡ lowest f (i + 1)
+unfolding lowest
+one_more f i a b x was now is = is ∙ rw (add-one i, was, now)
+
+pub loop-k-init : goal.loop-k-init
+unfolding lowest
+loop-k-init c = refl
+
+pub loop-k-preserved : goal.loop-k-preserved
+loop-k-preserved c = one_more (barred_at c.args.c c.args.banks c.args.e) c.loop-k.k-index _ _ _ c.loop-k.invariant c.barred.ensures c.or_else-first.ensures

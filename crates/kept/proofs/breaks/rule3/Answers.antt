@@ -1,21 +1,34 @@
 -- By the command.
 -- Assumes nothing.
-use borrow.Author.Tests.{eq-eqb, ne_eqb}
+use Rattle.records.specs.declared.Command.TheVariants.{Mrs, Act, Rd}
+use Rattle.records.proofs.Tags.{told}
 use Rattle.running.specs.Breaks.{rule3}
 use Rattle.kept.proofs.breaks.rule3.Goals as goal
 
-pub returns-then-k-eq0 : goal.returns-then-k-eq0
+pub returns-then-eq : goal.returns-then-eq
 unfolding rule3
-returns-then-k-eq0 c = simp (← c.mrs_allowed.ensures, eq-eqb _ _ c.if-k-eq0.true, ← c.rank_of-k.ensures)
+returns-then-eq c = simp (c.mrs_allowed.ensures, told c.args.c Mrs c.eq.ensures c.if-eq.true)
 
-pub returns-then-k-eq3 : goal.returns-then-k-eq3
+pub returns-then-eq-2 : goal.returns-then-eq-2
 unfolding rule3
-returns-then-k-eq3 c = simp (← c.three_if.ensures, eq-eqb _ _ c.if-k-eq3.true, ne_eqb _ _ c.if-k-eq0.false, ← c.rank_of-k.ensures)
+returns-then-eq-2 c =
+    simp (c.three_if.ensures, told c.args.c Mrs c.eq.ensures c.if-eq.false, told c.args.c Act c.eq-2.ensures c.if-eq-2.true)
 
-pub returns-then-k-eq5 : goal.returns-then-k-eq5
+pub returns-then-eq-3 : goal.returns-then-eq-3
 unfolding rule3
-returns-then-k-eq5 c = simp (← c.three_if-then-k-eq5.ensures, eq-eqb _ _ c.if-k-eq5.true, ne_eqb _ _ c.if-k-eq3.false, ne_eqb _ _ c.if-k-eq0.false, ← c.rank_of-k.ensures)
+returns-then-eq-3 c =
+    simp (
+      c.three_if-then-eq-3.ensures,
+      told c.args.c Mrs c.eq.ensures c.if-eq.false,
+      told c.args.c Act c.eq-2.ensures c.if-eq-2.false,
+      told c.args.c Rd c.eq-3.ensures c.if-eq-3.true,
+    )
 
 pub returns : goal.returns
 unfolding rule3
-returns c = simp (ne_eqb _ _ c.if-k-eq5.false, ne_eqb _ _ c.if-k-eq3.false, ne_eqb _ _ c.if-k-eq0.false, ← c.rank_of-k.ensures)
+returns c =
+    simp (
+      told c.args.c Mrs c.eq.ensures c.if-eq.false,
+      told c.args.c Act c.eq-2.ensures c.if-eq-2.false,
+      told c.args.c Rd c.eq-3.ensures c.if-eq-3.false,
+    )

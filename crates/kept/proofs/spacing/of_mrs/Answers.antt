@@ -5,4 +5,4 @@ use Rattle.kept.proofs.spacing.of_mrs.Goals as goal
 
 pub returns : goal.returns
 unfolding spacings waits
-returns c = simp (c.spaced.ensures, c.spaced-b15.ensures, c.spaced-b16.ensures, c.spaced-b18.ensures, c.spaced-b19.ensures, c.as19.ensures, c.spaced-b21.ensures)
+returns c = simp (c.spaced.ensures, c.spaced-b15.ensures, c.spaced-b16.ensures, c.spaced-b18.ensures, c.spaced-b19.ensures, c.read_mark.ensures, c.spaced-b21.ensures)

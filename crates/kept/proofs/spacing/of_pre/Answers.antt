@@ -6,7 +6,7 @@ use Rattle.kept.proofs.spacing.of_pre.Goals as goal
 
 pub returns-then-r-eq1 : goal.returns-then-r-eq1
 unfolding spacings waits
-returns-then-r-eq1 c = simp (c.spaced.ensures, c.spaced-b10.ensures, c.as10.ensures, c.spaced-b11.ensures, c.as11.ensures, eq-eqb _ _ c.if-r-eq1.true, c.waits-b15.ensures)
+returns-then-r-eq1 c = simp (c.spaced.ensures, c.spaced-b10.ensures, c.read_mark.ensures, c.spaced-b11.ensures, c.wrote_mark.ensures, eq-eqb _ _ c.if-r-eq1.true, c.waits-b15.ensures)
 
 pub returns : goal.returns
 unfolding spacings waits

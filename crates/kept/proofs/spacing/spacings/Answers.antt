@@ -1,5 +1,6 @@
 -- By the command.
 -- Assumes nothing.
+use native.Mathlib.Omega.{arith}
 use mathlib.Core.Path.{sym, ap, ◌∙◌}
 use Rattle.records.specs.declared.Command.{Command}
 use Rattle.running.specs.Breaks.{spacings}
@@ -11,7 +12,7 @@ returns-in-Mrs c = c.of_mrs.ensures ∙ ap (λ (x : Command). spacings c.args.ch
 
 pub returns-in-Ref : goal.returns-in-Ref
 unfolding spacings
-returns-in-Ref c = c.of_ref.ensures ∙ ap (λ (x : Command). spacings c.args.chip x c.args.r c.args.e c.args.k c.args.s) (sym c.in-Ref.is)
+returns-in-Ref c = grind (arith, c.in-Ref.is, c.of_ref.ensures)
 
 pub returns-in-Pre : goal.returns-in-Pre
 unfolding spacings
@@ -29,17 +30,9 @@ pub returns-in-Rd : goal.returns-in-Rd
 unfolding spacings
 returns-in-Rd c = c.of_rd.ensures ∙ ap (λ (x : Command). spacings c.args.chip x c.args.r c.args.e c.args.k c.args.s) (sym c.in-Rd.is)
 
-pub returns-in-Zq : goal.returns-in-Zq
-unfolding spacings
-returns-in-Zq c = c.of_ref-in-Zq.ensures ∙ ap (λ (x : Command). spacings c.args.chip x c.args.r c.args.e c.args.k c.args.s) (sym c.in-Zq.is)
-
 pub returns-in-Nop : goal.returns-in-Nop
 unfolding spacings
-returns-in-Nop c = ap (λ (x : Command). spacings c.args.chip x c.args.r c.args.e c.args.k c.args.s) (sym c.in-Nop.is)
-
-pub returns-in-Des : goal.returns-in-Des
-unfolding spacings
-returns-in-Des c = ap (λ (x : Command). spacings c.args.chip x c.args.r c.args.e c.args.k c.args.s) (sym c.in-Des.is)
+returns-in-Nop c = grind (arith, c.in-Nop.is)
 
 pub returns-in-Sre : goal.returns-in-Sre
 unfolding spacings
@@ -48,19 +41,3 @@ returns-in-Sre c = c.of_sre.ensures ∙ ap (λ (x : Command). spacings c.args.ch
 pub returns-in-Srx : goal.returns-in-Srx
 unfolding spacings
 returns-in-Srx c = c.of_srx.ensures ∙ ap (λ (x : Command). spacings c.args.chip x c.args.r c.args.e c.args.k c.args.s) (sym c.in-Srx.is)
-
-pub returns-in-Low : goal.returns-in-Low
-unfolding spacings
-returns-in-Low c = ap (λ (x : Command). spacings c.args.chip x c.args.r c.args.e c.args.k c.args.s) (sym c.in-Low.is)
-
-pub returns-in-Bad : goal.returns-in-Bad
-unfolding spacings
-returns-in-Bad c = ap (λ (x : Command). spacings c.args.chip x c.args.r c.args.e c.args.k c.args.s) (sym c.in-Bad.is)
-
-pub returns-in-Pde : goal.returns-in-Pde
-unfolding spacings
-returns-in-Pde c = ap (λ (x : Command). spacings c.args.chip x c.args.r c.args.e c.args.k c.args.s) (sym c.in-Pde.is)
-
-pub returns-in-Pdx : goal.returns-in-Pdx
-unfolding spacings
-returns-in-Pdx c = ap (λ (x : Command). spacings c.args.chip x c.args.r c.args.e c.args.k c.args.s) (sym c.in-Pdx.is)

@@ -5,4 +5,4 @@ use Rattle.moves.proofs.Check.begun.Goals as goal
 
 pub returns : goal.returns
 unfolding begun_of
-returns c = rw c.opened.ensures
+returns c = rw (c.err.ensures.value, c.parse.ensures)

@@ -1,18 +1,27 @@
 -- By the command.
 -- Assumes nothing.
-use borrow.Author.Tests.{eq-eqb, ne_eqb}
+use Rattle.records.specs.declared.Command.TheVariants.{Pre, Rd}
+use Rattle.records.proofs.Tags.{told}
 use Rattle.running.specs.Next.{start_now}
-use native.Mathlib.Omega.{arith}
 use Rattle.rank.proofs.banks.start_now.Goals as goal
 
-pub returns-then-k-eq2 : goal.returns-then-k-eq2
+pub returns-then-eq-clause-value : goal.returns-then-eq-clause-value
 unfolding start_now
-returns-then-k-eq2 c = record { value = simp (eq-eqb _ _ c.if-k-eq2.true, ← c.rank_of-k.ensures); upper_bound = omega (arith, c.al_of-al.ensures.1, c.requires.e_le_last_edge, c.requires.a_le_last_edge, c.requires.small.tras, c.requires.small.trtp) }
+returns-then-eq-clause-value c = rw (told c.args.c Pre c.eq.ensures c.if-eq.true)
 
-pub returns-then-k-eq5 : goal.returns-then-k-eq5
+pub returns-then-eq-2-clause-value : goal.returns-then-eq-2-clause-value
 unfolding start_now
-returns-then-k-eq5 c = record { value = simp (c.most_of.ensures, eq-eqb _ _ c.if-k-eq5.true, ne_eqb _ _ c.if-k-eq2.false, c.al_of-al.ensures.0, ← c.rank_of-k.ensures); upper_bound = omega (arith, c.most_of.ensures, c.al_of-al.ensures.1, c.requires.e_le_last_edge, c.requires.a_le_last_edge, c.requires.small.tras, c.requires.small.trtp) }
+returns-then-eq-2-clause-value c =
+    rw (c.max.ensures, c.al_of-al.ensures.0, told c.args.c Pre c.eq.ensures c.if-eq.false, told c.args.c Rd c.eq-2.ensures c.if-eq-2.true)
 
-pub returns : goal.returns
+pub returns-clause-value : goal.returns-clause-value
 unfolding start_now
-returns c = record { value = simp (c.wr_of.ensures.0, c.h_of.ensures.0, c.cwl_of.ensures.0, ne_eqb _ _ c.if-k-eq5.false, ne_eqb _ _ c.if-k-eq2.false, c.al_of-al.ensures.0, ← c.rank_of-k.ensures); upper_bound = omega (arith, c.wr_of.ensures.1, c.h_of.ensures.1, c.cwl_of.ensures.1, c.al_of-al.ensures.1, c.requires.e_le_last_edge, c.requires.a_le_last_edge, c.requires.small.tras, c.requires.small.trtp) }
+returns-clause-value c =
+    rw (
+      c.wr_of.ensures.0,
+      c.h_of.ensures.0,
+      c.cwl_of.ensures.0,
+      c.al_of-al.ensures.0,
+      told c.args.c Pre c.eq.ensures c.if-eq.false,
+      told c.args.c Rd c.eq-2.ensures c.if-eq-2.false,
+    )

@@ -1,21 +1,26 @@
 -- By the command.
 -- Assumes nothing.
-use borrow.Author.Tests.{eq-eqb, ne_eqb}
+use mathlib.Core.Logic.{⊎_elim}
+use mathlib.Core.Path.{◌≡◌}
+use Rattle.records.specs.declared.Command.TheVariants.{Ref, Pre, Srx, Pde}
 use Rattle.edges.specs.Clearing.{clear_next}
+use Rattle.rank.proofs.Commands.{is-other}
 use Rattle.rank.proofs.clearing.clear_next.Goals as goal
 
-pub returns-then-k : goal.returns-then-k
+pub returns-in-Ref : goal.returns-in-Ref
 unfolding clear_next
-returns-then-k c = rw (← c.rank_of-k.ensures, c.if-k.true) c.owing_of.ensures
+returns-in-Ref c = ⊎_elim (λ (h : c.args.c ≡ Ref). rw h c.owing_of.ensures) (λ (h : c.args.c ≡ Pre). rw h c.owing_of.ensures) c.in-Ref.is
 
-pub returns-then-k-eq10 : goal.returns-then-k-eq10
+pub returns-in-Srx : goal.returns-in-Srx
 unfolding clear_next
-returns-then-k-eq10 c = rw (← c.rank_of-k.ensures, c.if-k.false, eq-eqb _ _ c.if-k-eq10.true) c.owing_of-then-k-eq10.ensures
+returns-in-Srx c = rw c.in-Srx.is c.owing_of-in-Srx.ensures
 
-pub returns-then-k-eq13 : goal.returns-then-k-eq13
+pub returns-in-Pde : goal.returns-in-Pde
 unfolding clear_next
-returns-then-k-eq13 c = rw (← c.rank_of-k.ensures, c.if-k.false, ne_eqb _ _ c.if-k-eq10.false, eq-eqb _ _ c.if-k-eq13.true) c.least_of.ensures
+returns-in-Pde c = rw c.in-Pde.is c.min.ensures
 
-pub returns : goal.returns
+pub returns-in_default : goal.returns-in_default
 unfolding clear_next
-returns c = rw (← c.rank_of-k.ensures, c.if-k.false, ne_eqb _ _ c.if-k-eq10.false, ne_eqb _ _ c.if-k-eq13.false)
+returns-in_default c =
+    let n = c.in_default in
+    rw (is-other Ref _ n.not-Ref, is-other Pre _ n.not-Pre, is-other Srx _ n.not-Srx, is-other Pde _ n.not-Pde)

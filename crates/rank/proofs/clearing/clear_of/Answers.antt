@@ -14,24 +14,21 @@ sooner-too l z at stay x y (inr (inl p)) h = inr (inl p)
 sooner-too l z at stay x y (inr (inr p)) h = inr (inr (omega arith))
 
 pub loop-b-init : goal.loop-b-init
-loop-b-init c = clear-start _ _ _ _ _ _
+loop-b-init c = clear-start _ _ _
 
 pub next_due-x-requires : goal.next_due-x-requires
-next_due-x-requires c = c.requires.by_index _ c.loop-b-test.true
-
-pub loop-b-smaller : goal.loop-b-smaller
-loop-b-smaller c = omega (arith, c.loop-b-test.true)
+next_due-x-requires c = record { b_bound = c.loop-b-test.true; acted = c.requires.by_index _ c.loop-b-test.true }
 
 pub loop-b-preserved : goal.loop-b-preserved
-loop-b-preserved c = let r = c.next_due-x.ensures in clear_next_lem _ _ _ _ _ _ _ _ c.loop-b.invariant c.next_due-x.result c.loop-b-test.true r.off r.upper_bound
+loop-b-preserved c = let r = c.next_due-x.ensures in clear_next_lem _ _ _ _ _ c.loop-b.invariant c.next_due-x.result r.off r.upper_bound
 
 pub returns : goal.returns
 returns c =
     let h = c.loop-b.invariant in
     let s = c.stay_of.ensures in
-    let below = owing-below c.args.d c.stay_of.result in
+    let below = owing-below c.args.s.now.debt c.stay_of.result in
     rw c.owing_of.ensures (record {
-      clears = clear-end _ _ _ _ _ _ _ _ h _ (omega (arith, c.loop-b-test.false)) (omega (arith, below, s.upper_bound));
+      clears = clear-end _ _ _ _ _ h _ (omega (arith, c.loop-b-test.false)) (omega (arith, below, s.upper_bound));
       upper_bound = omega (arith, h.near, below, s.upper_bound);
       owing = owing-by _ _;
       staying = sooner-too _ _ _ _ _ _ s.staying below;

@@ -7,6 +7,11 @@ use Rattle.running.specs.Ranges.{far_edge}
 use Rattle.edges.specs.declared.Rank.{Rank}
 use Rattle.edges.specs.Ranges.{Ranged}
 use Rattle.edges.specs.Ends.{end_of}
+use mathlib.Core.Path.{◌∙◌}
+use Rattle.answers.specs.Answer.{shown_of}
+use Rattle.running.specs.Breaks.{status_of}
+use Rattle.edges.specs.Views.{kept_of}
+use Rattle.rank.proofs.Filling.{eights}
 use Rattle.rank.proofs.closing.closed.Goals as goal
 
 from-edge : (sleeps : Bool) (e : ℕ) → cond sleeps 0 e ≤ e
@@ -24,10 +29,10 @@ unfolding end_of
 returns c =
     simp (
       c.owed_now.ensures,
-      c.registers_of-registers.ensures,
+      c.registers_of.ensures,
       c.written_of.ensures,
       c.regs_of.ensures,
-      c.banks_at-banks.ensures,
+      c.banks_at.ensures ∙ eights (λ b. shown_of (status_of (kept_of c.args.chip c.args.s.banks b) c.rest-t.result)),
       c.rest-t.ensures,
       c.verdict_of-v.ensures,
     )

@@ -3,4 +3,4 @@
 use Rattle.rank.proofs.closing.owed_now.Goals as goal
 
 pub returns : goal.returns
-returns c = simp (c.since.ensures, c.begun.ensures, c.since-left.ensures, c.of_two.ensures)
+returns c = simp (c.since.ensures, c.begun.ensures, c.since-left.ensures, c.either.ensures)

@@ -12,7 +12,7 @@ pub record_at-r-requires : goal.record_at-r-requires
 record_at-r-requires c = omega (arith, c.loop-at.invariant.ready.sixes, c.loop-at-test.true)
 
 pub returns-then-r-eq0 : goal.returns-then-r-eq0
-returns-then-r-eq0 c = let l = c.loop-at in let q = c.loop-at-test.true in let a = c.record_at-r in λ C. counts_zero _ _ _ _ _ l.invariant a.result a.ensures q _ C c.if-r-eq0.true
+returns-then-r-eq0 c = let l = c.loop-at in let q = c.loop-at-test.true in let a = c.record_at-r in λ C s. counts_zero _ _ _ _ _ l.invariant a.result a.ensures q s C c.if-r-eq0.true
 
 pub overflow_add-m : goal.overflow_add-m
 overflow_add-m c = let l = c.loop-at in let q = c.loop-at-test.true in let a = c.record_at-r in omega (arith, counts-edge _ _ _ _ _ l.invariant a.result a.ensures q)
@@ -31,4 +31,4 @@ unfolding stopped_of
 loop-at-preserved c = let l = c.loop-at in let q = c.loop-at-test.true in let a = c.record_at-r in counts-next _ _ _ _ _ l.invariant a.result a.ensures q c.if-r-eq0.false
 
 pub returns : goal.returns
-returns c = let l = c.loop-at in λ C. counts_end _ _ _ _ _ l.invariant _ C (omega (arith, c.loop-at-test.false))
+returns c = let l = c.loop-at in λ C s. counts_end _ _ _ _ _ l.invariant s C (omega (arith, c.loop-at-test.false))

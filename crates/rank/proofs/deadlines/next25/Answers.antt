@@ -3,4 +3,4 @@
 use Rattle.rank.proofs.deadlines.next25.Goals as goal
 
 pub returns : goal.returns
-returns c = simp c.of_two.ensures
+returns c = simp c.either.ensures

@@ -3,4 +3,4 @@
 use Rattle.rank.proofs.deadlines.next31.Goals as goal
 
 pub returns : goal.returns
-returns c = simp (c.late_by.ensures, c.of_two.ensures)
+returns c = simp (c.late_by.ensures, c.either.ensures)

@@ -70,19 +70,10 @@ start_of-start-requires c = let p = c.requires in let n = near c.args.s c.args.r
 pub debt_next-debt-requires : goal.debt_next-debt-requires
 debt_next-debt-requires c = let p = c.requires in let n = near c.args.s c.args.r p.ranged p.step_bound p.count_bound in record { small = p.small; e_le_far_edge = omega (arith, n); due_le_far_edge = debt-near c.args.s p.ranged }
 
-pub waits_next-waits-requires : goal.waits_next-waits-requires
-waits_next-waits-requires c = let p = c.requires in let n = near c.args.s c.args.r p.ranged p.step_bound p.count_bound in record { small = p.small; e_le_last_edge = n; start_le_far_edge = c.start_of-start.ensures.upper_bound }
-
-pub acts_next-acts-requires : goal.acts_next-acts-requires
-acts_next-acts-requires c = c.requires.ranged.turn
-
-pub device_next-device-requires : goal.device_next-device-requires
-device_next-device-requires c = c.requires.small
-
 pub returns : goal.returns
 returns c =
     let a = c.args in
     moved-is a.chip a.s a.r
     c.command_of-c.ensures c.regs_of-g.ensures c.start_of-start.ensures.value c.four_back-four.ensures c.slow_now-slow.ensures
-    c.debt_next-debt.ensures c.banks_next-banks.ensures
-    c.waits_next-waits.ensures c.acts_next-acts.ensures c.device_next-device.ensures
+    c.debt_next-debt.ensures c.banks_next.ensures
+    c.waits_next.ensures c.acts_next.ensures c.device_next.ensures

@@ -1,12 +1,15 @@
 -- Of an entry.
 -- Assumes nothing.
-use borrow.Author.Tests.{ne_eqb}
+use Rattle.records.specs.declared.Command.TheVariants.{Pde}
+use Rattle.records.proofs.Tags.{told}
 use Rattle.running.specs.Down.{rule26}
+use Rattle.edges.specs.Views.{kept_of}
+use Rattle.rank.proofs.Filling.{eights}
 use Rattle.rank.proofs.said.entered.Goals as goal
 
-pub returns-then-rank_of-ne13 : goal.returns-then-rank_of-ne13
-unfolding rule26
-returns-then-rank_of-ne13 c = rw (← c.rank_of.ensures, ne_eqb _ _ c.if-rank_of-ne13.true)
+pub returns-then-eq : goal.returns-then-eq
+returns-then-eq c = simp (c.rule26.ensures, c.kepts.ensures, eights (kept_of c.args.chip c.args.s.banks))
 
 pub returns : goal.returns
-returns c = simp (c.rule26.ensures, c.kepts.ensures)
+unfolding rule26
+returns c = rw (told c.args.c Pde c.eq.ensures c.if-eq.false)

@@ -16,6 +16,7 @@ use Rattle.running.specs.Breaks.{status_of, wants, barred_by, speaks_of_all, rul
 use Rattle.edges.specs.declared.Banks.{Banks}
 use Rattle.edges.specs.Views.{kept_of, kepts_of}
 use Rattle.running.specs.Breaks.{rule2}
+use Rattle.rank.proofs.Filling.{eights}
 use Rattle.rank.proofs.said.rule2_in.Goals as goal
 
 of_one_lem :
@@ -29,7 +30,7 @@ of_one_lem C B c r e k x one kept is =
 pub returns-then-speaks_of_all : goal.returns-then-speaks_of_all
 unfolding rule2
 returns-then-speaks_of_all c =
-    simp (c.first_barred.ensures, c.kepts.ensures, ← c.speaks_of_all.ensures, c.if-speaks_of_all.true)
+    simp (c.first_barred.ensures, c.kepts.ensures, eights (kept_of c.args.chip c.args.banks), ← c.speaks_of_all.ensures, c.if-speaks_of_all.true)
 
 pub returns : goal.returns
 unfolding rule2

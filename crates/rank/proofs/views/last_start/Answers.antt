@@ -17,10 +17,10 @@ one_more_lem at nums i best x e is = is ∙ rw e (let s : suc i ≡ i + 1 = omeg
 
 pub loop-i-init : goal.loop-i-init
 unfolding last_start
-loop-i-init c = (search rules, search rules, refl)
+loop-i-init c = (search rules, refl)
 
 pub loop-i-preserved : goal.loop-i-preserved
-loop-i-preserved c = let l = c.loop-i in (search rules, c.later_start-best.ensures.upper_bound, one_more_lem _ _ l.i _ _ l.invariant.2 c.later_start-best.ensures.value)
+loop-i-preserved c = let l = c.loop-i in (c.later_start-best.ensures.upper_bound, one_more_lem _ _ l.i _ _ l.invariant.1 c.later_start-best.ensures.value)
 
 pub returns : goal.returns
-returns c = let l = c.loop-i in record { value = l.invariant.2 ∙ ap (last_start _ _) (omega arith); upper_bound = l.invariant.1 }
+returns c = let l = c.loop-i in record { value = l.invariant.1 ∙ ap (last_start _ _) (omega arith); upper_bound = l.invariant.0 }

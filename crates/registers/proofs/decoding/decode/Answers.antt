@@ -1,14 +1,15 @@
--- Allowed where no bit is bad.
+-- Allowed where no bit is named.
 -- Assumes nothing.
-use Rattle.registers.specs.Allowed.{allowed}
+use Rattle.std.proofs.Common.{sym}
+use mathlib.Core.Path.{◌∙◌}
 use Rattle.registers.specs.Reading.{decoded_of}
-use borrow.Author.Tests.{eq-eqb, ne_eqb}
+use Rattle.registers.proofs.Lowest.{none-allowed, some-bad}
 use Rattle.registers.proofs.decoding.decode.Goals as goal
 
-pub returns-then-bit-eq-NO_BIT : goal.returns-then-bit-eq-NO_BIT
-unfolding decoded_of allowed
-returns-then-bit-eq-NO_BIT c = simp (c.values_of.ensures, ← c.bad_bit-bit.ensures, eq-eqb _ _ c.if-bit-eq-NO_BIT.true)
+pub returns-in-None : goal.returns-in-None
+unfolding decoded_of
+returns-in-None c = simp (c.values_of.ensures, none-allowed _ _ _ (sym c.bad_bit.ensures ∙ c.in-None.is))
 
-pub returns : goal.returns
-unfolding decoded_of allowed
-returns c = simp (← c.bad_bit-bit.ensures, ne_eqb _ _ c.if-bit-eq-NO_BIT.false)
+pub returns-in-Some : goal.returns-in-Some
+unfolding decoded_of
+returns-in-Some c = let b = some-bad _ _ _ _ (sym c.bad_bit.ensures ∙ c.in-Some.is) in simp (b.0, b.1)

@@ -14,4 +14,4 @@ returns c =
     c.counted.ensures i
     && (c.debt_ok.ensures i
     && (leb s.acts.turn 3 && (leb s.first.edge last_edge
-    && (c.edge_ok.ensures i && (c.banks_ok.ensures i && c.ring_ok.ensures i)))))
+    && (c.edge_ok.ensures i && (c.edges_ok.ensures i && c.edges_ok-2.ensures i)))))

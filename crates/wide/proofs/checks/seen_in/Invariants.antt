@@ -1,12 +1,10 @@
--- A record a turn; what remains leads to what the whole section gives.
+-- What remains leads to what the whole section gives.
 -- Assumes nothing.
-use Prim.Native.Nat.{◌-◌}
-use lib.ListN.{length}
-use Rattle.wide.proofs.Seeing.{Seeing}
+use Rattle.std.proofs.Common.{map}
+use Rattle.records.proofs.Turns.{Going}
+use Rattle.wide.specs.Wide.{wide_at}
+use Rattle.wide.specs.Seen.{seen_of}
 use Rattle.wide.proofs.checks.seen_in.Given as goal
 
-abbrev pub invariant-loop-at : goal.invariant-loop-at
-invariant-loop-at l = Seeing l.initial.s l.bytes l.s l.at
-
-abbrev pub decreases-loop-at : goal.decreases-loop-at
-decreases-loop-at l = length l.bytes - l.at
+abbrev pub invariant-loop-eight : goal.invariant-loop-eight
+invariant-loop-eight l = Going (λ s ps. seen_of s (map (λ p. wide_at p 0) ps)) l.initial.s l.eight-items l.s l.eight-index

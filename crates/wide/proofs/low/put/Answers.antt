@@ -1,35 +1,13 @@
--- The six bytes, one by one.
+-- The six bytes in their place.
 -- Assumes nothing.
-use Prim.Native.Nat.{suc, ◌+◌}
-use native.Mathlib.Omega.{arith}
-use mathlib.Core.Path.{◌≡◌}
-use lib.ListN.{length-set}
-use lib.Seq.{sets-eq}
+use Rattle.std.proofs.Common.{◌≡◌, ◌∙◌, ◌++◌, ◌+◌, take, drop, refl, ap}
 use Rattle.wide.specs.Low.{low6}
+use Rattle.wide.proofs.Placing.{placed}
 use Rattle.wide.proofs.low.put.Goals as goal
-
-pub bounds-out-at-2 : goal.bounds-out-at-2
-bounds-out-at-2 c = simp length-set (omega arith)
-
-pub bounds-out-at-3 : goal.bounds-out-at-3
-bounds-out-at-3 c = simp length-set (omega arith)
-
-pub bounds-out-at-4 : goal.bounds-out-at-4
-bounds-out-at-4 c = simp length-set (omega arith)
-
-pub bounds-out-at-5 : goal.bounds-out-at-5
-bounds-out-at-5 c = simp length-set (omega arith)
-
-pub bounds-out-at-6 : goal.bounds-out-at-6
-bounds-out-at-6 c = simp length-set (omega arith)
 
 pub returns : goal.returns
 unfolding low6
 returns c =
-    let at = c.args.at in
-    let e1 : at + 1 ≡ suc at = omega arith in
-    let e2 : at + 2 ≡ suc (suc at) = omega arith in
-    let e3 : at + 3 ≡ suc (suc (suc at)) = omega arith in
-    let e4 : at + 4 ≡ suc (suc (suc (suc at))) = omega arith in
-    let e5 : at + 5 ≡ suc (suc (suc (suc (suc at)))) = omega arith in
-    rw (e1, e2, e3, e4, e5) (sets-eq (low6 c.args.n) c.args.out.now at c.requires)
+    let out = c.args.out.now in
+    let is : c.copy_from_slice.new.self ≡ low6 c.args.n = rw (c.copy_from_slice.ensures.after, c.to_le_bytes.ensures) refl in
+    placed c.args.at 6 out c.copy_from_slice.new.self ∙ ap (λ ys. take c.args.at out ++ ys ++ drop (c.args.at + 6) out) is

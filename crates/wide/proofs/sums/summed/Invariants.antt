@@ -1,12 +1,12 @@
--- A record a turn; what remains leads to what the whole section gives.
+-- What remains leads to what the whole section gives.
 -- Assumes nothing.
-use Prim.Native.Nat.{◌-◌}
-use lib.ListN.{length}
-use Rattle.wide.proofs.Stepping.{Stepping}
+use Rattle.std.proofs.Common.{map, ◌≡◌, ◌≤◌, ◌*◌, drop}
+use Rattle.wide.specs.Wide.{wide_at}
+use Rattle.wide.specs.Steps.{steps_seen}
+use Rattle.wide.proofs.Stepping.{steps_from}
 use Rattle.wide.proofs.sums.summed.Given as goal
 
-abbrev pub invariant-loop-at : goal.invariant-loop-at
-invariant-loop-at l = Stepping l.bytes l.sum l.zero l.spare l.at
-
-abbrev pub decreases-loop-at : goal.decreases-loop-at
-decreases-loop-at l = length l.bytes - l.at
+abbrev pub invariant-loop-eight : goal.invariant-loop-eight
+invariant-loop-eight l =
+    (l.sum ≤ l.eight-index * 16777216)
+    × (steps_from l.sum l.zero l.spare (map (λ p. wide_at p 0) (drop l.eight-index l.eight-items)) ≡ steps_seen (map (λ p. wide_at p 0) l.eight-items))

@@ -1,9 +1,0 @@
--- `lot::reading::sections` is safe and ends: the count of turns left falls.
--- Assumes nothing.
-use Rattle.lot.proofs.reading.sections.Given as goal
-
-abbrev pub invariant-loop-turns : goal.invariant-loop-turns
-invariant-loop-turns l = Unit
-
-abbrev pub decreases-loop-turns : goal.decreases-loop-turns
-decreases-loop-turns l = l.turns

@@ -1,9 +1,0 @@
--- It ends: the count of turns left falls.
--- Assumes nothing.
-use Rattle.mover.proofs.checking.sections.Given as goal
-
-abbrev pub invariant-loop-turns : goal.invariant-loop-turns
-invariant-loop-turns l = Unit
-
-abbrev pub decreases-loop-turns : goal.decreases-loop-turns
-decreases-loop-turns l = l.turns

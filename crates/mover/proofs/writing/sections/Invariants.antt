@@ -1,9 +1,0 @@
--- It ends: fewer bytes are left.
--- Assumes nothing.
-use Rattle.mover.proofs.writing.sections.Given as goal
-
-abbrev pub invariant-loop-left : goal.invariant-loop-left
-invariant-loop-left l = Unit
-
-abbrev pub decreases-loop-left : goal.decreases-loop-left
-decreases-loop-left l = l.left
