@@ -14,34 +14,16 @@ use Rattle.laws.specs.Lent.{written}
 use Rattle.laws.proofs.Lent.{refuses}
 use Rattle.answers.specs.declared.Verdict.{Verdict}
 use Rattle.answers.specs.Answer.{verdict_bytes, room_for, Reported, ReportedBoth}
-use Rattle.judge.specs.Answers.{OpenAnswer as Opened}
-use Rattle.judge.specs.Answers.{SectionAnswer as Taken}
-use Rattle.judge.specs.Answers.{CloseAnswer as Closed}
+use Rattle.judge.specs.Answers.{OpenAnswer as Opened, SectionAnswer as Taken, CloseAnswer as Closed}
 use Rattle.judge.specs.Calls.{open_of, section_of, close_of}
 use Rattle.sections.specs.Recording.{whole_refusal, needed, judge_code}
-use Rattle.sections.proofs.Recordings.{too_short, refusal-most, not_opened, not_taken, closed-number, closed-verdict, closed-second}
+use Rattle.sections.proofs.Recordings.{not_opened, not_taken, closed-number, closed-verdict, closed-second}
 use Rattle.firmware.specs.Calls.{answer_bytes, Judge, Judged}
 
 module _ (bs : List ℕ) (end : ℕ) where
-  -- a number alone
-  alone : (n r : ℕ) (v w : Verdict) → r ≡ n → n ≡ whole_refusal bs end → (n ≡ 0 → ⊥) → Judged bs end r v w
-  alone n r v w e is some = record { number = e ∙ is; found = λ z. absurd (some (sym e ∙ z)); found-second = λ z. absurd (some (sym e ∙ z)) }
-
-  most : (n : ℕ) → n ≡ whole_refusal bs end → n ≤ 255
-  most n is = omega (arith, is, refusal-most bs end)
-
-  pub short : (r : ℕ) (v w : Verdict) → length bs < 6 → r ≡ 1 → Judged bs end r v w
-  short r v w l e = alone 1 r v w e (too_short bs end l) (λ z. omega arith)
-
   module _ (o : Opened) (os : o ≡ open_of (take 6 bs)) where
-    open-refuses : (o.refused ≡ 0 → ⊥) → o.refused ≡ whole_refusal bs end
+    pub open-refuses : (o.refused ≡ 0 → ⊥) → o.refused ≡ whole_refusal bs end
     open-refuses n = ap (λ (x : Opened). x.refused) os ∙ not_opened bs end (λ z. n (ap (λ (x : Opened). x.refused) os ∙ z))
-
-    pub open-most : (o.refused ≡ 0 → ⊥) → o.refused ≤ 255
-    open-most n = most _ (open-refuses n)
-
-    pub by-open : (r : ℕ) (v w : Verdict) → (o.refused ≡ 0 → ⊥) → r ≡ o.refused → Judged bs end r v w
-    by-open r v w n e = alone _ r v w e (open-refuses n) n
 
     module _ (z : o.refused ≡ 0) (t : Taken) (ts : t ≡ section_of o.state (take (length bs - 6) (drop 6 bs))) where
       opened : (open_of (take 6 bs)).refused ≡ 0
@@ -52,15 +34,9 @@ module _ (bs : List ℕ) (end : ℕ) where
           ts ∙ ap (section_of o.state) (take_all (length bs - 6) (drop 6 bs) (omega (arith, length-drop 6 bs)))
           ∙ ap (λ (x : Opened). section_of x.state (drop 6 bs)) os
 
-      section-refuses : (t.refused ≡ 0 → ⊥) → t.refused ≡ whole_refusal bs end
+      pub section-refuses : (t.refused ≡ 0 → ⊥) → t.refused ≡ whole_refusal bs end
       section-refuses n =
           ap (λ (x : Taken). x.refused) section-is ∙ not_taken bs end opened (λ q. n (ap (λ (x : Taken). x.refused) section-is ∙ q))
-
-      pub section-most : (t.refused ≡ 0 → ⊥) → t.refused ≤ 255
-      section-most n = most _ (section-refuses n)
-
-      pub by-section : (r : ℕ) (v w : Verdict) → (t.refused ≡ 0 → ⊥) → r ≡ t.refused → Judged bs end r v w
-      by-section r v w n e = alone _ r v w e (section-refuses n) n
 
       module _ (q : t.refused ≡ 0) (c : Closed) (cs : c ≡ close_of t.state end) where
         taken : (section_of (open_of (take 6 bs)).state (drop 6 bs)).refused ≡ 0
@@ -69,14 +45,8 @@ module _ (bs : List ℕ) (end : ℕ) where
         close-is : c ≡ close_of (section_of (open_of (take 6 bs)).state (drop 6 bs)).state end
         close-is = cs ∙ ap (λ (x : Taken). close_of x.state end) section-is
 
-        closes : c.refused ≡ whole_refusal bs end
+        pub closes : c.refused ≡ whole_refusal bs end
         closes = ap (λ (x : Closed). x.refused) close-is ∙ closed-number bs end opened taken
-
-        pub close-most : c.refused ≤ 255
-        close-most = most _ closes
-
-        pub by-close : (r : ℕ) (v w : Verdict) → (c.refused ≡ 0 → ⊥) → r ≡ c.refused → Judged bs end r v w
-        by-close r v w n e = alone _ r v w e closes n
 
         pub by-verdict : (v w : Verdict) → c.refused ≡ 0 → v ≡ c.end.verdict → w ≡ c.second.verdict → Judged bs end 0 v w
         by-verdict v w n e f =
@@ -95,20 +65,20 @@ module _ (bs : List ℕ) (end : ℕ) where
     unfolding judge_code
     no_room l = refuses _ _ _ 9 (rw (lt-ltb _ _ l)) (λ z. omega arith)
 
+    code_is : needed bs ≤ length before → (r : ℕ) → r ≡ whole_refusal bs end → judge_code bs end (length before) ≡ r
+    unfolding judge_code
+    code_is room r is = rw (le-ltb _ _ room) (sym is)
+
+    pub refused_all : needed bs ≤ length before → (r : ℕ) → r ≡ whole_refusal bs end → (r ≡ 0 → ⊥) → Judge bs end before r before
+    refused_all room r is n = refuses _ _ _ r (sym (code_is room r is)) n
+
     module _ (room : needed bs ≤ length before) (r : ℕ) (v w : Verdict) (j : Judged bs end r v w) where
-      code_is : judge_code bs end (length before) ≡ r
-      unfolding judge_code
-      code_is = rw (le-ltb _ _ room) (sym j.number)
-
-      pub refused_all : (r ≡ 0 → ⊥) → Judge bs end before r before
-      refused_all n = refuses _ _ _ r (sym code_is) n
-
       module _ (z : r ≡ 0) (q : ℕ) (after : List ℕ) where
         pub reported : (eqb (edition_for bs) 2 ≡ false) → Reported v before q after → Judge bs end before q after
         unfolding answer_bytes
         reported one p =
             let big : 20 ≤ length before = rw one at room in
-            let code : room_for 20 (length before) ≡ judge_code bs end (length before) = rw (le-ltb _ _ big) (sym (code_is ∙ z)) in
+            let code : room_for 20 (length before) ≡ judge_code bs end (length before) = rw (le-ltb _ _ big) (sym (code_is room r j.number ∙ z)) in
             record {
               result = p.result ∙ code;
               out = rw one (p.out ∙ (λ i. written (code i) (verdict_bytes (j.found z i)) before));
@@ -118,7 +88,7 @@ module _ (bs : List ℕ) (end : ℕ) where
         unfolding answer_bytes
         reported-both two p =
             let big : 40 ≤ length before = rw two at room in
-            let code : room_for 40 (length before) ≡ judge_code bs end (length before) = rw (le-ltb _ _ big) (sym (code_is ∙ z)) in
+            let code : room_for 40 (length before) ≡ judge_code bs end (length before) = rw (le-ltb _ _ big) (sym (code_is room r j.number ∙ z)) in
             record {
               result = p.result ∙ code;
               out = rw two (p.out ∙ (λ i. written (code i) (verdict_bytes (j.found z i) ++ verdict_bytes (j.found-second z (eqb-true _ _ two) i)) before));

@@ -12,9 +12,8 @@ use lib.ListN.{length, get_or-replicate}
 use borrow.Author.Tests.{ltb-false, le-leb, eq-eqb}
 use Rattle.units.proofs.Rounding.{down-zero}
 use Rattle.header.specs.declared.Header.{Header}
-use Rattle.header.specs.Bytes.{Parsed}
 use Rattle.std.specs.Prelude.{Ok, Err}
-use Rattle.header.specs.Bytes.{edition_for, parsed_of}
+use Rattle.header.specs.Bytes.{Parsed, edition_for, parsed_of}
 use Rattle.header.specs.Counts.{t_refi}
 use Rattle.header.proofs.Bounds.{bounds}
 use Rattle.records.specs.Record.{records, has_zero}
@@ -30,9 +29,8 @@ use Rattle.edges.specs.Step.{fold_of}
 use Rattle.edges.specs.Ranges.{rank_in_range}
 use Rattle.edges.specs.Ends.{fresh_banks, fresh_acts, fresh_device, fresh_rank, start_rank}
 use Rattle.edges.proofs.Ranging as rank
-use Rattle.judge.specs.Answers.{OpenAnswer as Opened}
+use Rattle.judge.specs.Answers.{OpenAnswer as Opened, SectionAnswer as Section, zeros}
 use Rattle.judge.specs.declared.State.{State}
-use Rattle.judge.specs.Answers.{SectionAnswer as Section}
 use Rattle.judge.specs.Ranges.{ranks_agree, in_range}
 use Rattle.judge.specs.Calls.{start_of, opened_by, open_of, folded, taken_by, section_of}
 use Rattle.judge.proofs.Folds.{fold-kept, level-on}
@@ -133,11 +131,16 @@ module _ (s : State) (bs : List ℕ) (h : in_range s ≡ true) where
       go true true q z w = h
       go false y q z w = h
 
--- a refused opening hands out a state that every section and closing refuses with 17: its interval is 0
+-- `State::unopened` is refused with 17 by every section and closing: its interval is 0
+pub unopened-out-of-range : in_range zeros ≡ false
+unfolding in_range
+unopened-out-of-range = rw (down-zero 7800000)
+
+-- and so is what a refused opening comes with
 pub refused-out-of-range : (bytes : List ℕ) → ((open_of bytes).refused ≡ 0 → ⊥) → in_range (open_of bytes).state ≡ false
 unfolding open_of in_range
 refused-out-of-range bytes n = go (parsed_of (edition_for bytes) bytes) n
   where
     go : (p : Parsed) → ((opened_by (edition_for bytes) p).refused ≡ 0 → ⊥) → in_range (opened_by (edition_for bytes) p).state ≡ false
     go (Ok h) m = absurd (m refl)
-    go (Err k) m = rw (down-zero 7800000)
+    go (Err k) m = unopened-out-of-range

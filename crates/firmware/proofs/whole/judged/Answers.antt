@@ -6,11 +6,12 @@ use Rattle.refusals.proofs.Answers.{never_0}
 use Rattle.refusals.proofs.Passed.{passed}
 use Rattle.judge.specs.Answers.{opened_as, taken_as, closed_as}
 use Rattle.firmware.specs.Whole.{JudgedAs}
-use Rattle.firmware.proofs.Wholes.{short, by-open, by-section, by-close, by-verdict}
+use Rattle.sections.proofs.Recordings.{too_short}
+use Rattle.firmware.proofs.Wholes.{open-refuses, section-refuses, closes, by-verdict}
 use Rattle.firmware.proofs.whole.judged.Goals as goal
 
 pub returns-then-recording-lt6 : goal.returns-then-recording-lt6
-returns-then-recording-lt6 c = λ v w. short _ _ _ v w c.if-recording-lt6.true refl
+returns-then-recording-lt6 c = too_short _ _ c.if-recording-lt6.true
 
 pub slice_bounds-open-end : goal.slice_bounds-open-end
 slice_bounds-open-end c = omega (arith, length-take 6 c.args.recording.now, c.if-recording-lt6.false)
@@ -18,18 +19,18 @@ slice_bounds-open-end c = omega (arith, length-take 6 c.args.recording.now, c.if
 pub returns-in_err-state : goal.returns-in_err-state
 returns-in_err-state c =
     subst (JudgedAs c.args.recording.now c.args.end) (sym (passed c.from_residual.result _ c.from_residual.ensures.1))
-    (λ v w. by-open _ _ _ (ap opened_as (sym c.in_err-state.was) ∙ c.open.ensures) _ v w (never_0 _) refl)
+    (open-refuses _ _ _ (ap opened_as (sym c.in_err-state.was) ∙ c.open.ensures) (never_0 _))
 
 pub returns-in_err-taken : goal.returns-in_err-taken
 returns-in_err-taken c =
     subst (JudgedAs c.args.recording.now c.args.end) (sym (passed c.from_residual-in_err-taken.result _ c.from_residual-in_err-taken.ensures.1))
-    (λ v w. by-section _ _ _ (ap opened_as (sym c.in_ok-state.was) ∙ c.open.ensures) refl _ (ap (taken_as _) (sym c.in_err-taken.was) ∙ c.section.ensures) _ v w (never_0 _) refl)
+    (section-refuses _ _ _ (ap opened_as (sym c.in_ok-state.was) ∙ c.open.ensures) refl _ (ap (taken_as _) (sym c.in_err-taken.was) ∙ c.section.ensures) (never_0 _))
 
 pub returns-in_err-closed : goal.returns-in_err-closed
 returns-in_err-closed c =
     subst (JudgedAs c.args.recording.now c.args.end) (sym (passed c.from_residual-in_err-closed.result _ c.from_residual-in_err-closed.ensures.1))
-    (λ v w. by-close _ _ _ (ap opened_as (sym c.in_ok-state.was) ∙ c.open.ensures) refl _ (ap (taken_as _) (sym c.in_ok-taken.was) ∙ c.section.ensures) refl _
-    (ap closed_as (sym c.in_err-closed.was) ∙ c.close.ensures) _ v w (never_0 _) refl)
+    (closes _ _ _ (ap opened_as (sym c.in_ok-state.was) ∙ c.open.ensures) refl _ (ap (taken_as _) (sym c.in_ok-taken.was) ∙ c.section.ensures) refl _
+    (ap closed_as (sym c.in_err-closed.was) ∙ c.close.ensures))
 
 pub returns : goal.returns
 returns c =
