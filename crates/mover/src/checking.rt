@@ -11,8 +11,10 @@ use std::fs::File;
 pub(crate) fn checked(rt: &HostRuntime, way: Direction) -> Result<u64, Trouble> {
     let source = file::opened(rt)?;
     let c = sections(headed(&source, way)?, &source)?;
-    c.outcome()?;
-    Ok(c.bytes)
+    match c.refusal() {
+        0 => Ok(c.bytes),
+        number => Err(Trouble::Refused(number)),
+    }
 }
 
 fn headed(source: &Option<File>, way: Direction) -> Result<Check, Trouble> {
@@ -24,7 +26,7 @@ fn headed(source: &Option<File>, way: Direction) -> Result<Check, Trouble> {
 // Section after section, but none behind a header that is refused. Nothing says that a file ends, so the turns have a bound that no run comes to.
 fn sections(start: Check, source: &Option<File>) -> Result<Check, Trouble> {
     let mut c = start;
-    if c.refused.is_some() {
+    if c.refused != 0 {
         return Ok(c);
     }
     for _ in 0..u64::MAX {

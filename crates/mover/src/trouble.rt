@@ -1,17 +1,15 @@
 // Why nothing, or not all, was moved; told on standard error.
 
-use refusals::Refusal;
-
 // Standard error, by number.
 const STDERR_FILENO: i32 = 2;
 
-// Of output that cannot be written nothing is told.
+// Of output that cannot be written nothing is told; a refusal is told by its number.
 #[derive(Clone, Copy)]
 pub(crate) enum Trouble {
     Unopened,
     Unread,
     Unwritten,
-    Refused(Refusal),
+    Refused(u32),
 }
 
 impl Trouble {
@@ -20,20 +18,14 @@ impl Trouble {
             Trouble::Unopened => tell(b"why unopened\n"),
             Trouble::Unread => tell(b"why unread\n"),
             Trouble::Unwritten => (),
-            Trouble::Refused(refusal) => refused(refusal),
+            Trouble::Refused(number) => refused(number),
         }
     }
 }
 
-impl From<Refusal> for Trouble {
-    fn from(refusal: Refusal) -> Trouble {
-        Trouble::Refused(refusal)
-    }
-}
-
-fn refused(refusal: Refusal) {
+fn refused(number: u32) {
     tell(b"refused ");
-    io::print_decimal(STDERR_FILENO, u64::from(refusal.number()));
+    io::print_decimal(STDERR_FILENO, u64::from(number));
     tell(b"\n");
 }
 

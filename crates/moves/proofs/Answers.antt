@@ -6,7 +6,7 @@ use Rattle.laws.proofs.Unique.{Unique, one_answer}
 use Rattle.moves.specs.declared.Check.{Check}
 use Rattle.moves.specs.Moves.{widened, narrowed}
 use Rattle.moves.specs.Check.{begun_of, over_of, refusal_of}
-use Rattle.moves.specs.Promises.{Widen, Narrow, Begun, Over, Outcome}
+use Rattle.moves.specs.Promises.{Widen, Narrow, Begun, Over, Refusal}
 
 module _ (bs : List ℕ) {before after after' : List ℕ} {r r' : ℕ} where
   pub widen-unique : Widen bs before r after → Widen bs before r' after' → (r ≡ r') × (after ≡ after')
@@ -21,8 +21,8 @@ begun-unique header edition = one_answer (begun_of edition header)
 pub over-unique : (c : Check) (bytes : List ℕ) → Unique (Over c bytes)
 over-unique c bytes = one_answer (over_of c bytes)
 
-pub outcome-unique : (c : Check) → Unique (Outcome c)
-outcome-unique c = one_answer (refusal_of c)
+pub refusal-unique : (c : Check) → Unique (Refusal c)
+refusal-unique c = one_answer (refusal_of c)
 
 -- "writes nothing when refused"; "Later bytes of the buffer keep their values"
 module _ (bs before after : List ℕ) (r : ℕ) where

@@ -3,10 +3,10 @@
 use Rattle.std.proofs.Common.{◌≡◌, ℕ, ◌+◌, ◌%◌, ◌<◌, Bool, true, false, cond, ◌||◌, eqb, List, [], ◌∷◌, ◌++◌, map, length, take, drop, sym, refl, ap, ◌∙◌, append_assoc, arith, length-append, length-drop, length-take, ne_eqb}
 use mathlib.Core.Bool.{or_assoc}
 use Rattle.laws.specs.Cuts.{run, uncut, Each}
-use Rattle.refusals.specs.Refusals.{number_if}
-use Rattle.refusals.proofs.Passed.{kept-number}
-use Rattle.header.specs.Bytes.{header_refusal, parsed_of}
-use Rattle.header.proofs.Answers.{number_is}
+use Rattle.refusals.specs.declared.Refusal.{Refusal}
+use Rattle.refusals.specs.Refusals.{number_of}
+use Rattle.refusals.proofs.Answers.{never_0}
+use Rattle.header.specs.Bytes.{header_refusal}
 use Rattle.records.specs.declared.Record.{Record}
 use Rattle.records.specs.Record.{records, has_zero}
 use Rattle.records.proofs.Pieces.{map-append}
@@ -17,8 +17,8 @@ use Rattle.wide.specs.Wide.{wides, rank_of, has_spare, cannot_return}
 use Rattle.wide.specs.Seen.{seen_none, seen_of}
 use Rattle.wide.proofs.Wides.{wides-append, spare_of, stays_of}
 use Rattle.moves.specs.declared.Check.{Check}
-use Rattle.moves.specs.Moves.{counted, refusal_by, widen_refusal, seen_refusal, narrow_refusal}
-use Rattle.moves.specs.Check.{begun_of, seen_by, over_of, refusal_of}
+use Rattle.moves.specs.Moves.{opening, counted, refusal_by, widen_refusal, seen_refusal, narrow_refusal}
+use Rattle.moves.specs.Check.{start_of, begun_of, seen_by, over_of, refusal_of}
 
 -- ── In one section ──────────────────────────────────────────────────────────────────────────
 
@@ -28,31 +28,32 @@ module _ (bs : List ℕ) (fits : length bs < 18446744073709551616) where
 
   pub widen-checked : refusal_of (over_of (begun_of 1 (take 6 bs)) (drop 6 bs)) ≡ widen_refusal bs
   unfolding refusal_of over_of begun_of seen_by refusal_by
-  widen-checked =
-      let h = kept-number (parsed_of 1 (take 6 bs)) ∙ number_is 1 (take 6 bs) in
-      λ i. cond (eqb (h i) 0) (counted 6 (count i) (cond (has_zero (records (drop 6 bs))) 6 0)) (h i)
+  widen-checked = ap (λ (n : ℕ). cond (eqb (opening 1 bs) 0) (counted 6 n (cond (has_zero (records (drop 6 bs))) 6 0)) (opening 1 bs)) count
 
   pub narrow-checked : refusal_of (over_of (begun_of 2 (take 6 bs)) (drop 6 bs)) ≡ narrow_refusal bs
   unfolding refusal_of over_of begun_of seen_by refusal_by
   narrow-checked =
-      let h = kept-number (parsed_of 2 (take 6 bs)) ∙ number_is 2 (take 6 bs) in
-      λ i. cond (eqb (h i) 0) (counted 8 (count i) (seen_refusal (seen_of seen_none (wides (drop 6 bs))))) (h i)
+      ap (λ (n : ℕ). cond (eqb (opening 2 bs) 0) (counted 8 n (seen_refusal (seen_of seen_none (wides (drop 6 bs))))) (opening 2 bs)) count
 
 -- a header that is refused: what comes behind it is not looked at
-pub header-refuses : (c : Check) (bs : List ℕ) → (number_if c.refused ≡ 0 → ⊥) → refusal_of (over_of c bs) ≡ number_if c.refused
+pub header-refuses : (c : Check) (bs : List ℕ) → (c.refused ≡ 0 → ⊥) → refusal_of (over_of c bs) ≡ c.refused
 unfolding refusal_of over_of
-header-refuses c bs some = rw (ne_eqb (number_if c.refused) 0 some)
-
-begun-number : (e : ℕ) (hs : List ℕ) → number_if (begun_of e hs).refused ≡ header_refusal e hs
-unfolding begun_of
-begun-number e hs = kept-number (parsed_of e hs) ∙ number_is e hs
+header-refuses c bs some = rw (ne_eqb c.refused 0 some)
 
 pub too_short : (e : ℕ) (bs : List ℕ) → length bs < 6 → 1 ≡ refusal_of (over_of (begun_of e (take 6 bs)) (drop 6 bs))
-unfolding header_refusal
-too_short e bs few =
-    let one : number_if (begun_of e (take 6 bs)).refused ≡ 1 =
-    begun-number e (take 6 bs) ∙ rw (ne_eqb (length (take 6 bs)) 6 (λ z. omega (arith, length-take 6 bs))) refl in
-    sym (header-refuses (begun_of e (take 6 bs)) (drop 6 bs) (λ z. omega (arith, one, z)) ∙ one)
+unfolding refusal_of over_of begun_of header_refusal
+too_short e bs few = rw (ne_eqb (length (take 6 bs)) 6 (λ z. omega (arith, length-take 6 bs)))
+
+-- a header's refusal, by its number
+pub header-told : (e : ℕ) (hs xs : List ℕ) (r : Refusal) → number_of r ≡ header_refusal e hs → number_of r ≡ refusal_of (over_of (begun_of e hs) xs)
+unfolding begun_of
+header-told e hs xs r is = is ∙ sym (header-refuses (begun_of e hs) xs (λ z. never_0 r (is ∙ z)))
+
+-- a header that is taken: what comes behind it tells
+pub header-passes : (e : ℕ) (hs xs : List ℕ) (c : Check) → 0 ≡ header_refusal e hs → c ≡ over_of (start_of e 0) xs
+    → refusal_of (record c { refused = 0 }) ≡ refusal_of (over_of (begun_of e hs) xs)
+unfolding begun_of over_of
+header-passes e hs xs c none is = ap (λ (x : Check). refusal_of (record x { refused = 0 })) is ∙ ap (λ (n : ℕ). refusal_of (over_of (start_of e n) xs)) none
 
 -- ── A section more ──────────────────────────────────────────────────────────────────────────
 

@@ -2,9 +2,7 @@
 -- elsewhere. 02, Q-7.
 -- Assumes nothing.
 use Rattle.std.specs.Prelude.{ℕ, ◌+◌, ◌%◌, cond, ◌||◌, List, length, ◌==◌}
-use Rattle.std.specs.Result.{result_err}
-use Rattle.refusals.specs.Refusals.{number_if}
-use Rattle.header.specs.Bytes.{parsed_of}
+use Rattle.header.specs.Bytes.{header_refusal}
 use Rattle.records.specs.Record.{records, has_zero}
 use Rattle.wide.specs.declared.Seen.{Seen}
 use Rattle.wide.specs.Wide.{wides}
@@ -12,9 +10,13 @@ use Rattle.wide.specs.Seen.{seen_none, seen_of}
 use Rattle.moves.specs.declared.Check.{Check}
 use Rattle.moves.specs.Moves.{counted, seen_refusal}
 
+-- behind a header that was refused by this number, or taken
+abbrev pub start_of : (edition refused : ℕ) → Check
+start_of e n = record { edition = e; refused = n; bytes = 0; seen = seen_none }
+
 -- the header of a recording of the edition that the move starts from
 unfoldable pub begun_of : (edition : ℕ) (header : List ℕ) → Check
-begun_of e hs = record { edition = e; refused = result_err (parsed_of e hs); bytes = 0; seen = seen_none }
+begun_of e hs = start_of e (header_refusal e hs)
 
 -- what was seen before, and in a section's records
 unfoldable pub seen_by : (edition : ℕ) → Seen → List ℕ → Seen
@@ -33,6 +35,6 @@ over_of c bs = record {
 -- the first check that fails, or 0
 unfoldable pub refusal_of : Check → ℕ
 refusal_of c =
-    cond (number_if c.refused == 0)
+    cond (c.refused == 0)
     (cond (c.edition == 1) (counted 6 c.bytes (seen_refusal c.seen)) (counted 8 c.bytes (seen_refusal c.seen)))
-    (number_if c.refused)
+    c.refused

@@ -23,6 +23,6 @@ Begun header edition r = r ≡ begun_of edition header
 abbrev pub Over : (c : Check) (bytes : List ℕ) (r : Check) → Type 0
 Over c bytes r = r ≡ over_of c bytes
 
--- `Check::outcome`
-abbrev pub Outcome : (c : Check) (r : ℕ) → Type 0
-Outcome c r = r ≡ refusal_of c
+-- `Check::refusal`
+abbrev pub Refusal : (c : Check) (r : ℕ) → Type 0
+Refusal c r = r ≡ refusal_of c

@@ -2,6 +2,7 @@
 // comes in sections.
 #![tactic(auto)]
 
+mod behind;
 mod checks;
 
 ghost use Rattle.std.specs.Prelude.{◌≡◌, ◌<◌, ◌≤◌, ◌++◌, length, take, drop};
@@ -13,12 +14,12 @@ ghost use Rattle.moves.specs.Promises.{Widen, Narrow};
 use refusals::Refusal;
 use wide::Seen;
 
-// How far the checks have come: the edition that the move starts from, the header's refusal, the bytes behind it, and what was seen in the
-// records.
+// How far the checks have come: the edition that the move starts from, the header's refusal or 0, the bytes behind it, and what was seen in the
+// records. The refusal is a number, as `Check::refusal` answers for any.
 #[derive(Clone, Copy)]
 pub struct Check {
     pub edition: u64,
-    pub refused: Option<Refusal>,
+    pub refused: u32,
     pub bytes: u64,
     pub seen: Seen,
 }
@@ -58,8 +59,8 @@ fn checked(recording: &[u8], edition: u64) -> Result<(), Refusal>
     if recording.len() < 6 {
         return Err(Refusal::HeaderLength);
     }
-    let c = Check::begun(&recording[..6], edition);
-    c.over(&recording[6..]).outcome()
+    header::parse(&recording[..6], edition)?;
+    Check::start(edition, 0).over(&recording[6..]).behind()
 }
 
 // Puts the header of another edition to the front of out.

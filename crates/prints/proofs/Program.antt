@@ -35,7 +35,7 @@ use Rattle.sections.proofs.Section.{Stands, fits, first-stood, second-stood, clo
 use Rattle.sections.proofs.Sections.{sound-chip, opened as opened-stands, stands-more}
 use Rattle.sections.proofs.Recordings.{same-edition}
 use Rattle.lines.specs.Line.{verdict_line}
-use Rattle.program.specs.Runs.{RunAnswer as Run}
+use Rattle.program.specs.declared.Run.{Run}
 use Rattle.program.specs.Answer.{closing_line, answer_line, closing_second, second_line}
 use Rattle.program.specs.Program.{opened_run, next_run, ran_over, program_line, program_second}
 use Rattle.program.proofs.Blocks.{stopped}

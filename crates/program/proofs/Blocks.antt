@@ -12,7 +12,7 @@ use lib.ListN.{length, take, drop, length-drop, drop_of_length-le}
 use lib.Seq.{take_all, take-append-le, drop-append-le}
 use Rattle.judge.specs.declared.State.{State}
 use Rattle.judge.specs.Calls.{section_of}
-use Rattle.program.specs.Runs.{RunAnswer as Run}
+use Rattle.program.specs.declared.Run.{Run}
 use Rattle.program.specs.Program.{next_run, ran_over}
 
 -- ── Sections in turn ────────────────────────────────────────────────────────────────────────

@@ -1,19 +1,19 @@
 -- What the code hands on, by what opening and a section answer; and one answer for each public contract.
 -- Assumes nothing.
 use Prim.Native.Nat.{ℕ}
-use mathlib.Core.Bool.{Bool, true, false, cond, ◌&&◌}
+use mathlib.Core.Bool.{Bool, true, false, cond, not, ◌&&◌, ◌||◌, true≢false}
 use mathlib.Core.List.{List, []}
 use mathlib.Core.Path.{◌≡◌, refl, sym, ap, subst, ◌∙◌}
 use lib.Dec.{eqb}
-use borrow.Author.Tests.{eq-eqb, ne_eqb}
+use borrow.Author.Tests.{eq-eqb}
 use Rattle.laws.proofs.Unique.{Unique, one_answer}
 use Rattle.lines.proofs.Answers as lines
 use Rattle.judge.specs.declared.State.{State}
 use Rattle.judge.specs.Answers.{CloseAnswer as Closed}
-use Rattle.judge.specs.Calls.{close_of, not_closed}
-use Rattle.lines.specs.Line.{refusal_line, Printed}
-use Rattle.program.specs.Answer.{closing_line, answer_line, closing_second, second_line, Ended}
-use Rattle.program.specs.Runs.{RunAnswer as Run}
+use Rattle.judge.specs.Calls.{close_of}
+use Rattle.lines.specs.Line.{Printed}
+use Rattle.program.specs.Answer.{closing_line, answer_line, closing_second, second_line}
+use Rattle.program.specs.declared.Run.{Run}
 use Rattle.program.specs.Program.{opened_run, next_run, ran_over}
 use Rattle.program.specs.Promises.{Begun, Next, Over, Line, SecondLine}
 
@@ -38,34 +38,32 @@ second-line-unique run one other = lines.line-unique one other
 
 -- ── The lines ───────────────────────────────────────────────────────────────────────────────
 
-module _ (r : Run) (c : Closed) (ended : Ended r c) where
-  pub closed-line : closing_line c ≡ answer_line r.refused r.state
-  unfolding closing_line answer_line
-  closed-line = ap closing_line ended ∙ go (eqb r.refused 0) refl
-    where
-      go : (x : Bool) → eqb r.refused 0 ≡ x
-          → closing_line (cond x (close_of r.state r.state.one.edge) (not_closed r.refused)) ≡ cond x (closing_line (close_of r.state r.state.one.edge)) (refusal_line r.refused)
-      go true e = refl
-      go false e = rw e refl
-
-  pub closed-second : r.state.edition ≡ 2 → closing_second c ≡ second_line r.refused r.state
-  unfolding closing_second second_line
-  closed-second two = ap closing_second ended ∙ go (eqb r.refused 0) refl ∙ rw (eq-eqb r.state.edition 2 two) refl
-    where
-      go : (x : Bool) → eqb r.refused 0 ≡ x
-          → closing_second (cond x (close_of r.state r.state.one.edge) (not_closed r.refused)) ≡ cond (x && true) (closing_second (close_of r.state r.state.one.edge)) []
-      go true e = refl
-      go false e = rw e refl
-
--- edition 1 has no second line
-pub no_second : (refused : ℕ) (s : State) → (s.edition ≡ 2 → ⊥) → second_line refused s ≡ []
-unfolding second_line
-no_second refused s other = rw (ne_eqb s.edition 2 other) (go (eqb refused 0))
-  where
-    go : (x : Bool) → cond (x && false) (closing_second (close_of s s.one.edge)) [] ≡ []
-    go true = refl
-    go false = refl
+-- nothing was refused: the line is that of closing
+pub closed-line : (refused : ℕ) (s : State) (c : Closed) → refused ≡ 0 → c ≡ close_of s s.one.edge → closing_line c ≡ answer_line refused s
+unfolding answer_line
+closed-line refused s c none is = ap closing_line is ∙ rw (eq-eqb refused 0 none) refl
 
 -- no byte
 pub nothing : (text before : List ℕ) → text ≡ [] → Printed text before 0 before
 nothing text before e = subst (λ t. Printed t before 0 before) (sym e) (record { count = refl; out = refl })
+
+-- of a run that was refused, or of edition 1
+pub no_second : (refused : ℕ) (s : State) (before : List ℕ) → (not (eqb refused 0) || not (eqb s.edition 2)) ≡ true → Printed (second_line refused s) before 0 before
+unfolding second_line
+no_second refused s before = go (eqb refused 0) (eqb s.edition 2)
+  where
+    go : (x y : Bool) → (not x || not y) ≡ true → Printed (cond (x && y) (closing_second (close_of s s.one.edge)) []) before 0 before
+    go true true h = absurd (true≢false (sym h))
+    go true false h = nothing [] before refl
+    go false y h = nothing [] before refl
+
+-- else it is that of closing
+pub closed-second : (refused : ℕ) (s : State) (c : Closed) → (not (eqb refused 0) || not (eqb s.edition 2)) ≡ false → c ≡ close_of s s.one.edge
+    → closing_second c ≡ second_line refused s
+unfolding second_line
+closed-second refused s c h is = ap closing_second is ∙ go (eqb refused 0) (eqb s.edition 2) h
+  where
+    go : (x y : Bool) → (not x || not y) ≡ false → closing_second (close_of s s.one.edge) ≡ cond (x && y) (closing_second (close_of s s.one.edge)) []
+    go true true h = refl
+    go true false h = absurd (true≢false h)
+    go false y h = absurd (true≢false h)

@@ -1,10 +1,9 @@
 -- The lines that the program prints of what it has judged, the first rank's first: 01, P8, and 02, Q-7.
 -- Assumes nothing.
-use Rattle.std.specs.Prelude.{◌≡◌, ℕ, cond, ◌&&◌, List, [], eqb}
+use Rattle.std.specs.Prelude.{ℕ, cond, ◌&&◌, List, [], eqb}
 use Rattle.judge.specs.declared.State.{State}
 use Rattle.judge.specs.Answers.{CloseAnswer as Closed}
-use Rattle.judge.specs.Calls.{close_of, not_closed}
-use Rattle.program.specs.Runs.{RunAnswer as Run}
+use Rattle.judge.specs.Calls.{close_of}
 use Rattle.lines.specs.Line.{verdict_line, refusal_line}
 
 -- closing is refused or has a verdict
@@ -21,7 +20,3 @@ closing_second c = cond (eqb c.refused 0) (verdict_line c.second.verdict) []
 
 unfoldable pub second_line : (refused : ℕ) → State → List ℕ
 second_line refused s = cond (eqb refused 0 && eqb s.edition 2) (closing_second (close_of s s.one.edge)) []
-
--- a run's refusal, or its closing
-abbrev pub Ended : Run → Closed → Type 0
-Ended r c = c ≡ cond (eqb r.refused 0) (close_of r.state r.state.one.edge) (not_closed r.refused)

@@ -1,4 +1,3 @@
-pub mod Runs
 pub mod Answer
 pub mod Program
 pub mod Promises

@@ -5,7 +5,7 @@
 use Rattle.std.specs.Prelude.{ℕ, zero, suc, ◌+◌, cond, ◌&&◌, List, eqb, length, take, drop}
 use Rattle.judge.specs.declared.State.{State}
 use Rattle.judge.specs.Calls.{open_of, section_of}
-use Rattle.program.specs.Runs.{RunAnswer as Run}
+use Rattle.program.specs.declared.Run.{Run}
 use Rattle.program.specs.Answer.{answer_line, second_line}
 
 -- after the header's bytes

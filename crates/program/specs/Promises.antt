@@ -4,7 +4,7 @@
 use Rattle.std.specs.Prelude.{ℕ, List, ◌≡◌}
 use Rattle.judge.specs.declared.State.{State}
 use Rattle.lines.specs.Promises as lines
-use Rattle.program.specs.Runs.{RunAnswer as Run}
+use Rattle.program.specs.declared.Run.{Run}
 use Rattle.program.specs.Answer.{answer_line, second_line}
 use Rattle.program.specs.Program.{opened_run, next_run, ran_over}
 

@@ -2,14 +2,10 @@
 // that it prints, one a rank.
 #![tactic(auto)]
 
-ghost use Rattle.judge.specs.Answers.{closed_as};
-ghost use Rattle.program.specs.Answer.{Ended};
-ghost use Rattle.program.specs.Runs.{run_as};
 ghost use Rattle.program.specs.Promises.{Begun, Next, Over, Line, SecondLine};
 
-use judge::{Closed, State};
+use judge::State;
 use lines::ROOM;
-use refusals::Refusal;
 
 // A section's bytes.
 pub const SECTION: usize = 6000;
@@ -20,26 +16,27 @@ pub const BLOCK: usize = 60000;
 // So many sections has a block.
 const SECTIONS: usize = 10;
 
-// What was refused, the state, and whether there may be more to read.
+// What was refused (0: nothing), the state, and whether there may be more to read. The refusal is a number, as `over`, `line` and `second_line`
+// answer for any.
 #[derive(Clone, Copy)]
 pub struct Run {
-    pub refused: Option<Refusal>,
+    pub refused: u64,
     pub state: State,
     pub more: bool,
 }
 
 // The run after the header's bytes.
 pub fn begun(header: &[u8]) -> Run
-    ensures { Begun header.now (run_as result) }
+    ensures { Begun header.now result }
 {
     match State::open(header) {
         Ok(state) => Run {
-            refused: None,
+            refused: 0,
             state,
             more: true,
         },
         Err(refused) => Run {
-            refused: Some(refused),
+            refused: u64::from(refused.number()),
             state: State::unopened(),
             more: false,
         },
@@ -48,16 +45,16 @@ pub fn begun(header: &[u8]) -> Run
 
 // The run after a section's bytes.
 pub fn next(state: State, bytes: &[u8]) -> Run
-    ensures { Next state bytes.now (run_as result) }
+    ensures { Next state bytes.now result }
 {
     match state.section(bytes) {
         Ok(taken) => Run {
-            refused: None,
+            refused: 0,
             state: taken.state,
             more: bytes.len() == SECTION,
         },
         Err(refused) => Run {
-            refused: Some(refused),
+            refused: u64::from(refused.number()),
             state,
             more: false,
         },
@@ -67,7 +64,7 @@ pub fn next(state: State, bytes: &[u8]) -> Run
 // The run after a block's bytes: section after section, ten at most, while there may be more. The last section of a block that is
 // not full is not full either, if only because it is empty: behind it there is no more.
 pub fn over(start: Run, block: &[u8]) -> Run
-    ensures { Over (run_as start) block.now (run_as result) }
+    ensures { Over start block.now result }
 {
     let mut run = start;
     let mut rest = block;
@@ -82,21 +79,14 @@ pub fn over(start: Run, block: &[u8]) -> Run
     run
 }
 
-// Closes at the last record's edge what was not refused.
-fn closed(run: Run) -> Result<Closed, Refusal>
-    ensures { Ended (run_as run) (closed_as result) }
-{
-    match run.refused {
-        Some(refused) => Err(refused),
-        None => run.state.close(run.state.one.edge),
-    }
-}
-
 // Puts the line of what was judged at the start of text, and answers how many bytes it takes.
 pub fn line(run: Run, text: &mut [u8; ROOM]) -> usize
-    ensures { Line (run_as run) text.old result text.new }
+    ensures { Line run text.old result text.new }
 {
-    match closed(run) {
+    if run.refused != 0 {
+        return lines::refusal_line(run.refused, text);
+    }
+    match run.state.close(run.state.one.edge) {
         Ok(closed) => lines::verdict_line(closed.end.verdict, text),
         Err(refused) => lines::refusal_line(refused.number() as u64, text),
     }
@@ -104,12 +94,12 @@ pub fn line(run: Run, text: &mut [u8; ROOM]) -> usize
 
 // The same of the second rank's line: no byte in edition 1, and none behind a refusal.
 pub fn second_line(run: Run, text: &mut [u8; ROOM]) -> usize
-    ensures { SecondLine (run_as run) text.old result text.new }
+    ensures { SecondLine run text.old result text.new }
 {
-    if run.state.edition != 2 {
+    if (run.refused != 0) | (run.state.edition != 2) {
         return 0;
     }
-    match closed(run) {
+    match run.state.close(run.state.one.edge) {
         Ok(closed) => lines::verdict_line(closed.second.verdict, text),
         Err(_) => 0,
     }

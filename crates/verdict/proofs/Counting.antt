@@ -31,7 +31,7 @@ use Rattle.judge.specs.Ranges.{in_range}
 use Rattle.running.specs.Said.{is_clean}
 use Rattle.edges.specs.Says.{says_of}
 use Rattle.edges.specs.Step.{moved_of, stopped_of, step_of, fold_of}
-use Rattle.program.specs.Runs.{RunAnswer as Run}
+use Rattle.program.specs.declared.Run.{Run}
 use Rattle.program.specs.Program.{opened_run, ran_over}
 use Rattle.program.proofs.Blocks.{after, goes, had-more, was-full}
 use Rattle.verdict.specs.Reading.{Opened, Took}

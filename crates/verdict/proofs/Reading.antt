@@ -13,7 +13,7 @@ use lib.Seq.{take_all, take_at, drop_at}
 use Rattle.header.specs.Bytes.{header_refusal, parsed_of}
 use Rattle.judge.specs.Calls.{open_of}
 use Rattle.lines.specs.Line.{Printed}
-use Rattle.program.specs.Runs.{RunAnswer as Run}
+use Rattle.program.specs.declared.Run.{Run}
 use Rattle.program.specs.Answer.{answer_line, second_line}
 use Rattle.program.specs.Program.{opened_run, ran_over, program_line, program_second}
 use Rattle.program.proofs.Blocks.{stopped, still, in-turn, enough}

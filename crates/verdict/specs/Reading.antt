@@ -2,7 +2,7 @@
 -- them what opening and sections make of them.
 -- Assumes nothing.
 use Rattle.std.specs.Prelude.{ℕ, ◌+◌, ◌≤◌, ◌≡◌, List, length}
-use Rattle.program.specs.Runs.{RunAnswer as Run}
+use Rattle.program.specs.declared.Run.{Run}
 use Rattle.program.specs.Program.{opened_run, ran_over, program_run, program_line, program_second}
 
 -- opening some bytes, six at most

@@ -3,7 +3,6 @@
 #![tactic(auto)]
 
 ghost use Rattle.std.specs.Prelude.{◌≡◌, length};
-ghost use Rattle.program.specs.Runs.{run_as};
 ghost use Rattle.verdict.specs.Reading.{Opened, Took, Ran, Judged, Told, ToldSecond};
 
 use judge::State;
@@ -24,14 +23,14 @@ fn main() {
 
 // The run over all of the input.
 fn judged() -> Run
-    ensures { Judged (run_as result) }
+    ensures { Judged result }
 {
     ran(opened())
 }
 
 // Opening, of the bytes that are there.
 fn opened() -> Run
-    ensures { Opened (run_as result) }
+    ensures { Opened result }
 {
     let mut header = [0u8; 6];
     let n = io::read_full(STDIN_FILENO, &mut header);
@@ -41,7 +40,7 @@ fn opened() -> Run
 // Block after block, up to a refusal or the end of the input. Past the limit there was a refusal, so the loop ends.
 fn ran(start: Run) -> Run
     requires { start.state.one.count ≡ 0 }
-    ensures { Ran (run_as start) (run_as result) }
+    ensures { Ran start result }
 {
     let mut run = start;
     let mut space = room();
@@ -64,7 +63,7 @@ fn room() -> [u8; BLOCK]
 // A block, of the bytes that are there.
 fn taken(run: Run, space: &mut [u8]) -> Run
     requires { length space.old ≡ 60000 }
-    ensures { Took (run_as run) (run_as result) }
+    ensures { Took run result }
 {
     let n = io::read_full(STDIN_FILENO, space);
     program::over(run, &space[..n])
@@ -72,7 +71,7 @@ fn taken(run: Run, space: &mut [u8]) -> Run
 
 // The lines of what was judged, the first rank's first.
 fn answer(run: Run)
-    requires { Judged (run_as run) }
+    requires { Judged run }
 {
     let mut text = [0u8; ROOM];
     let n = program::line(run, &mut text);

@@ -1,7 +1,7 @@
 -- 5, then 7, then the rest.
 -- Assumes nothing.
 use Rattle.std.proofs.Common.{le-ltb, lt-ltb, eq-eqb, ne_eqb}
-use Rattle.moves.proofs.checks.counted.Goals as goal
+use Rattle.moves.proofs.behind.counted.Goals as goal
 
 pub returns-then-over-ne0 : goal.returns-then-over-ne0
 returns-then-over-ne0 c = rw (ne_eqb _ _ c.if-over-ne0.true)
