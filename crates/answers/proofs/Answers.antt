@@ -10,9 +10,10 @@ use borrow.Author.Tests.{lt-ltb, le-ltb}
 use Rattle.laws.proofs.Lent.{pasted, refuses, writes, refused-keeps-all, later-bytes-kept, same_answer}
 use Rattle.laws.proofs.Unique.{Unique, one_answer}
 use Rattle.answers.specs.declared.Bank.{Bank}
+use Rattle.answers.specs.declared.Shown.{Shown}
 use Rattle.answers.specs.declared.Verdict.{Verdict}
-use Rattle.answers.specs.Answer.{verdict_bytes, shown_of, Reported, ReportedBoth}
-use Rattle.answers.specs.Promises.{Show, VerdictBytes}
+use Rattle.answers.specs.Answer.{verdict_bytes, shown_of, status_of, row_of, act_of, Reported, ReportedBoth}
+use Rattle.answers.specs.Promises.{Show, Status, ShownRow, ActEdge, VerdictBytes}
 
 pub twenty : (v : Verdict) → length (verdict_bytes v) ≡ 20
 unfolding verdict_bytes
@@ -79,3 +80,12 @@ bytes-unique v = one_answer (verdict_bytes v)
 
 pub show-unique : (b : Bank) → Unique (Show b)
 show-unique b = one_answer (shown_of b)
+
+pub status-unique : (b : Shown) → Unique (Status b)
+status-unique b = one_answer (status_of b)
+
+pub row-unique : (b : Shown) → Unique (ShownRow b)
+row-unique b = one_answer (row_of b)
+
+pub act-unique : (b : Shown) → Unique (ActEdge b)
+act-unique b = one_answer (act_of b)

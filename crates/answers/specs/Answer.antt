@@ -53,6 +53,23 @@ shown_of Idle = ShownIdle
 shown_of (Open at num row) = ShownOpen row at
 shown_of (Closing at num row) = ShownClosing row at
 
+-- 0, 1, 2 for the three
+abbrev pub status_of : Shown → ℕ
+status_of ShownIdle = 0
+status_of (ShownOpen row act) = 1
+status_of (ShownClosing row act) = 2
+
+-- row and ACT edge, 0 where it is idle
+abbrev pub row_of : Shown → ℕ
+row_of ShownIdle = 0
+row_of (ShownOpen row act) = row
+row_of (ShownClosing row act) = row
+
+abbrev pub act_of : Shown → ℕ
+act_of ShownIdle = 0
+act_of (ShownOpen row act) = act
+act_of (ShownClosing row act) = act
+
 -- a register that is not written has no code
 abbrev pub code_if : (written : Bool) → (code : ℕ) → Option ℕ
 code_if w c = cond w (Some c) None

@@ -56,6 +56,41 @@ pub struct End {
     pub owed: u64,
 }
 
+impl Shown {
+    // 0 idle, 1 open, 2 closing.
+    pub fn status(self) -> u64
+        ensures { Status self result }
+    {
+        match self {
+            Shown::Idle => 0,
+            Shown::Open { row: _, act: _ } => 1,
+            Shown::Closing { row: _, act: _ } => 2,
+        }
+    }
+
+    // 0 of a bank that is idle.
+    pub fn row(self) -> u64
+        ensures { ShownRow self result }
+    {
+        match self {
+            Shown::Idle => 0,
+            Shown::Open { row, act: _ } => row,
+            Shown::Closing { row, act: _ } => row,
+        }
+    }
+
+    // The edge of its ACT; 0 of a bank that is idle.
+    pub fn act(self) -> u64
+        ensures { ActEdge self result }
+    {
+        match self {
+            Shown::Idle => 0,
+            Shown::Open { row: _, act } => act,
+            Shown::Closing { row: _, act } => act,
+        }
+    }
+}
+
 // The bank as it is answered.
 pub fn show(b: Bank) -> Shown
     ensures { Show b result }
@@ -67,4 +102,4 @@ pub fn show(b: Bank) -> Shown
     }
 }
 
-ghost use Rattle.answers.specs.Promises.{Show};
+ghost use Rattle.answers.specs.Promises.{Show, Status, ShownRow, ActEdge};

@@ -1,6 +1,6 @@
 -- The rows by which a record is of a kind, with its name and its meaning: 01, "Commands and the 25 rules", first paragraph, and 02, Q-1, as a table.
 -- Assumes nothing.
-use Rattle.std.specs.Prelude.{ℕ, zero, suc, ◌+◌, ◌/◌, ◌%◌, Bool, true, false, cond, ◌&&◌, List, [], ◌∷◌, map, eqb, ltb, get_or}
+use Rattle.std.specs.Prelude.{ℕ, zero, suc, ◌+◌, ◌/◌, ◌%◌, Bool, true, false, cond, ◌&&◌, List, [], ◌∷◌, Option, None, Some, map, eqb, ltb, get_or}
 use Prim.Native.String.{String}
 use Rattle.records.specs.declared.Record.{Record}
 use Rattle.records.specs.Command.{a10}
@@ -20,6 +20,12 @@ abbrev pub level_of : ℕ → Level
 level_of zero = Low
 level_of (suc zero) = High
 level_of (suc (suc n)) = Any
+
+-- its digit, where it is not any
+abbrev pub pin_of : Level → Option ℕ
+pin_of Low = Some 0
+pin_of High = Some 1
+pin_of Any = None
 
 abbrev row : (kind : ℕ) (name : String) (before now asleep cs ras cas we a10 : ℕ) (meaning : String) → Row
 row kind name before now asleep cs ras cas we a10 meaning = record {

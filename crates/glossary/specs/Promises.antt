@@ -1,10 +1,15 @@
 -- What each public function answers, by name: cited by its `ensures`, and by its line in `proofs/Answers.antt` that two answers are
 -- equal.
 -- Assumes nothing.
-use Rattle.std.specs.Prelude.{ℕ, List, ◌≡◌}
+use Rattle.std.specs.Prelude.{ℕ, List, Option, ◌≡◌}
+use Rattle.glossary.specs.declared.Level.{Level}
 use Rattle.glossary.specs.declared.Row.{Row}
 use Rattle.glossary.specs.declared.Line.{Line}
-use Rattle.glossary.specs.Glossary.{row_of, place_of, line_of}
+use Rattle.glossary.specs.Glossary.{pin_of, row_of, place_of, line_of}
+
+-- `Level::pin`
+abbrev pub PinOf : (level : Level) (r : Option ℕ) → Type 0
+PinOf level r = r ≡ pin_of level
 
 -- `row_at`
 abbrev pub RowAt : (place : ℕ) (r : Row) → Type 0

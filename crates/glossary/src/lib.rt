@@ -6,7 +6,7 @@ mod table;
 
 ghost use Rattle.std.specs.Prelude.{◌≡◌, ◌<◌};
 ghost use Rattle.glossary.specs.Glossary as defs;
-ghost use Rattle.glossary.specs.Promises.{RowAt, RowOf, LineAt};
+ghost use Rattle.glossary.specs.Promises.{PinOf, RowAt, RowOf, LineAt};
 
 use table::ROWS;
 
@@ -16,6 +16,19 @@ pub enum Level {
     Low,
     High,
     Any,
+}
+
+impl Level {
+    // 0 low, 1 high; none where any will do.
+    pub fn pin(self) -> Option<u64>
+        ensures { PinOf self result }
+    {
+        match self {
+            Level::Low => Some(0),
+            Level::High => Some(1),
+            Level::Any => None,
+        }
+    }
 }
 
 // A kind of the tally and its name; the levels of CKE before and now, of being asleep before, of CS, RAS, CAS, WE and A10; what it means. The

@@ -110,10 +110,9 @@ fn row(l: Line) {
 
 // x for any.
 fn level(l: Level) {
-    match l {
-        Level::Low => put(b"0"),
-        Level::High => put(b"1"),
-        Level::Any => put(b"x"),
+    match l.pin() {
+        Some(n) => number(n),
+        None => put(b"x"),
     }
 }
 
@@ -169,19 +168,13 @@ fn print_banks(banks: [Shown; 8]) {
 // 0 idle, 1 open, 2 closing; row and ACT edge unless it is idle.
 fn bank(i: u64, b: Shown) {
     say(b"bank", i);
-    match b {
-        Shown::Idle => value(b"", 0),
-        Shown::Open { row, act } => active(i, 1, row, act),
-        Shown::Closing { row, act } => active(i, 2, row, act),
+    value(b"", b.status());
+    if b.status() != 0 {
+        say(b"bank", i);
+        hex(b"_row ", b.row(), 4);
+        say(b"bank", i);
+        value(b"_act_edge", b.act());
     }
-}
-
-fn active(i: u64, status: u64, row: u64, act: u64) {
-    value(b"", status);
-    say(b"bank", i);
-    hex(b"_row ", row, 4);
-    say(b"bank", i);
-    value(b"_act_edge", act);
 }
 
 fn print_registers(header: [u8; 6], registers: [Option<u16>; 4]) {
