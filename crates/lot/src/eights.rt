@@ -41,14 +41,14 @@ pub(crate) fn distance(sixes: u64) -> u64 {
     (sixes / 6).wrapping_mul(8)
 }
 
-// Tells the eight bytes that begin at a place of a section.
+// Tells the eight bytes that begin at a place of a section, two at once: each call is a write.
 pub(crate) fn tell(bytes: &[u8], at: usize) {
     let Some(record) = bytes.get(at..at.saturating_add(8)) else {
         return;
     };
     put(b"list_bytes ");
-    for &b in record {
-        io::print_hex(STDOUT_FILENO, u64::from(b), 2);
+    for &two in record.as_chunks::<2>().0 {
+        io::print_hex(STDOUT_FILENO, u64::from(u16::from_be_bytes(two)), 4);
     }
     put(b"\n");
 }

@@ -31,9 +31,10 @@ fn answer(call: [u8; CALL]) {
     print_answer(&header, number, code, room);
 }
 
+// Two bytes at once: each call is a write.
 fn print_header(header: &[u8; 6]) {
-    for &b in header {
-        io::print_hex(STDOUT_FILENO, u64::from(b), 2);
+    for &two in header.as_chunks::<2>().0 {
+        io::print_hex(STDOUT_FILENO, u64::from(u16::from_be_bytes(two)), 4);
     }
 }
 

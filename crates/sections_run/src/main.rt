@@ -75,16 +75,22 @@ fn judged(start: Result<State, Refusal>, print: Print, sections: u16) -> Result<
     let mut state = start.unwrap_or(State::unopened());
     let mut refused = start.err();
     for &n in lengths.as_chunks::<4>().0 {
-        let mut space = io::large_buffer();
-        let section = read(u32::from_be_bytes(n), &mut space);
-        if refused.is_none() {
-            refused = taken(&mut state, print, section).err();
-        }
+        refused = next(&mut state, refused, print, u32::from_be_bytes(n));
     }
     match refused {
         None => Ok(state),
         Some(refusal) => Err(refusal),
     }
+}
+
+// The section that comes next, and what is refused behind it. Its buffer stands in a function of its own, for each is zeroed where its function begins.
+fn next(state: &mut State, refused: Option<Refusal>, print: Print, length: u32) -> Option<Refusal> {
+    let mut space = io::large_buffer();
+    let section = read(length, &mut space);
+    if refused.is_some() {
+        return refused;
+    }
+    taken(state, print, section).err()
 }
 
 // So many bytes more of standard input, at the front of space.
