@@ -5,8 +5,8 @@ use Rattle.laws.proofs.Lent.{refused-keeps-all, later-bytes-kept, same_answer}
 use Rattle.laws.proofs.Unique.{Unique, one_answer}
 use Rattle.moves.specs.declared.Check.{Check}
 use Rattle.moves.specs.Moves.{widened, narrowed}
-use Rattle.moves.specs.Check.{begun_of, over_of, refusal_of}
-use Rattle.moves.specs.Promises.{Widen, Narrow, Begun, Over, Refusal}
+use Rattle.moves.specs.Check.{begun_of, over_of, refusal_of, outcome_of}
+use Rattle.moves.specs.Promises.{Widen, Narrow, Begun, Over, Refusal, Outcome}
 
 module _ (bs : List ℕ) {before after after' : List ℕ} {r r' : ℕ} where
   pub widen-unique : Widen bs before r after → Widen bs before r' after' → (r ≡ r') × (after ≡ after')
@@ -23,6 +23,9 @@ over-unique c bytes = one_answer (over_of c bytes)
 
 pub refusal-unique : (c : Check) → Unique (Refusal c)
 refusal-unique c = one_answer (refusal_of c)
+
+pub outcome-unique : (c : Check) → Unique (Outcome c)
+outcome-unique c = one_answer (outcome_of c)
 
 -- "writes nothing when refused"; "Later bytes of the buffer keep their values"
 module _ (bs before after : List ℕ) (r : ℕ) where

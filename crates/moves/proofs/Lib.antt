@@ -1,4 +1,5 @@
 pub mod Going
+pub mod Outcomes
 pub mod Sections
 pub mod Heads
 pub mod Laying

@@ -9,6 +9,7 @@ use Rattle.wide.specs.Wide.{wides}
 use Rattle.wide.specs.Seen.{seen_none, seen_of}
 use Rattle.moves.specs.declared.Check.{Check}
 use Rattle.moves.specs.Moves.{counted, seen_refusal}
+use Rattle.moves.specs.Told.{is_told}
 
 -- behind a header that was refused by this number, or taken
 abbrev pub start_of : (edition refused : ℕ) → Check
@@ -38,3 +39,7 @@ refusal_of c =
     cond (c.refused == 0)
     (cond (c.edition == 1) (counted 6 c.bytes (seen_refusal c.seen)) (counted 8 c.bytes (seen_refusal c.seen)))
     c.refused
+
+-- the same, where the check holds 0 or a refusal's number; 17 where it holds another, as only one made by hand does
+abbrev pub outcome_of : Check → ℕ
+outcome_of c = cond (is_told c.refused) (refusal_of c) 17

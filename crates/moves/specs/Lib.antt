@@ -1,3 +1,4 @@
 pub mod Moves
+pub mod Told
 pub mod Check
 pub mod Promises

@@ -4,7 +4,7 @@
 use Rattle.std.specs.Prelude.{◌≡◌, ℕ, List, length}
 use Rattle.laws.specs.Lent.{Wrote}
 use Rattle.moves.specs.declared.Check.{Check}
-use Rattle.moves.specs.Check.{begun_of, over_of, refusal_of}
+use Rattle.moves.specs.Check.{begun_of, over_of, refusal_of, outcome_of}
 use Rattle.moves.specs.Moves.{widened, narrowed, widen_refusal, narrow_refusal, code_of}
 
 -- `widen`
@@ -26,3 +26,7 @@ Over c bytes r = r ≡ over_of c bytes
 -- `Check::refusal`
 abbrev pub Refusal : (c : Check) (r : ℕ) → Type 0
 Refusal c r = r ≡ refusal_of c
+
+-- `Check::outcome`
+abbrev pub Outcome : (c : Check) (r : ℕ) → Type 0
+Outcome c r = r ≡ outcome_of c

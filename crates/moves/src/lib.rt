@@ -4,6 +4,9 @@
 
 mod behind;
 mod checks;
+mod outcome;
+#[cfg(test)]
+mod tests;
 
 ghost use Rattle.std.specs.Prelude.{◌≡◌, ◌<◌, ◌≤◌, ◌++◌, length, take, drop};
 ghost use Rattle.refusals.specs.Refusals.{number_in};
